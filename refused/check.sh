@@ -31,8 +31,8 @@ judge() { # CASE: says what is wrong with the case, or nothing
     error=$(header "$1" 2 error)
     if [ -z "$deps" ] || [ -z "$error" ]; then
         echo "its first lines are not 'deps: ..' and 'error: ..'"
-    elif ! grep -q '^//-' "$1"; then
-        echo "it has no line that is to be refused"
+    elif ! grep -q '^//[-+]' "$1"; then
+        echo "it does not differ from its good twin"
     elif ! prove "$scratch/${label}_good" "$1" + - "$deps" || ! grep -q '^logic=proved' "$scratch/${label}_good.log"; then
         echo "its good twin is not proved: $(grep -m 1 'error\|no proof\|^rt:' "$scratch/${label}_good.log")"
     elif prove "$scratch/${label}_bad" "$1" - + "$deps"; then

@@ -22,7 +22,8 @@ use Rattle.frame.specs.declared.faults.Refusal.{Refusal}
 use Rattle.frame.specs.Numbers.{serviceCode, messageCode, codec}
 use Rattle.frame.specs.Frames.{Said, actReq, actRes, vfyReq, vfyRes, enc, tmn, error, Parts, kindOf, fields, sep, wire}
 use Rattle.frame.specs.Reading.{rfuBits, svcBits, msgBits, coded, services, messages, serviceOf, messageOf, named, head, shaped, Reading, message, refused, fault, withBody, withHead, reading}
-use Rattle.frame.specs.Writing.{laden, writing, lengthAnswer, written, over, numbered, ReadsBack, WritesAgain}
+use Rattle.buffers.specs.Buffers.{over, lengthAnswer, written}
+use Rattle.frame.specs.Writing.{laden, writing, numbered, ReadsBack, WritesAgain}
 
 never : {P : Type 0} → _≡_ {A = ℕ} 0 1 → P
 never z = absurd (omega arith)

@@ -1,9 +1,9 @@
 -- What the writer answers and writes, and that reader and writer undo each other.
 use mathlib.Core.Path.{_≡_}
-use mathlib.Core.List.{List, [], _∷_, _++_}
-use mathlib.Core.Bool.{Bool, true, false, cond, _&&_, _||_, not}
+use mathlib.Core.List.{List}
+use mathlib.Core.Bool.{Bool, cond, _&&_, _||_, not}
 use Prim.Native.Nat.{ℕ, _≤_}
-use lib.ListN.{length, drop, take}
+use lib.ListN.{length, take}
 use lib.Dec.{eqb, ltb}
 use Rattle.std.specs.declared.result.Result.{Result}
 use Rattle.std.specs.declared.result.Result.the-variants.{Ok, Err}
@@ -23,18 +23,6 @@ writing x room =
     cond (ltb room 255) (Err 1)
     (cond (ltb 255 (length (wire x)) || laden (x .said)) (Err 3)
     (Ok (wire x)))
-
--- the length that a call answers, and its buffer after: what is past the bytes written stays
-abbrev pub lengthAnswer : Result (List ℕ) ℕ → Result ℕ ℕ
-lengthAnswer (Ok p) = Ok (length p)
-lengthAnswer (Err n) = Err n
-
-abbrev pub over : List ℕ → List ℕ → List ℕ
-over new old = new ++ drop (length new) old
-
-abbrev pub written : Result (List ℕ) ℕ → List ℕ → List ℕ
-written (Ok p) buffer = over p buffer
-written (Err n) buffer = buffer
 
 -- the code's answer by its numbers
 abbrev pub numbered : Result ℕ Refusal → Result ℕ ℕ

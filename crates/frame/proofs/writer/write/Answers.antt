@@ -4,7 +4,8 @@ use lib.ListN.{length}
 use borrow.Author.Needs.{needs}
 use Rattle.std.specs.declared.result.Result.the-variants.{Ok}
 use Rattle.frame.specs.Frames.{parts}
-use Rattle.frame.specs.Writing.{lengthAnswer, written, numbered, writing}
+use Rattle.buffers.specs.Buffers.{lengthAnswer, written}
+use Rattle.frame.specs.Writing.{numbered, writing}
 use Rattle.frame.proofs.Trips.{writing-ok, reads-back}
 use Rattle.frame.proofs.writer.write.Needs as need
 

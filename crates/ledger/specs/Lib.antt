@@ -1,0 +1,3 @@
+pub mod Ledgers
+pub mod Rows
+pub mod Tables

@@ -1,0 +1,4 @@
+pub mod Calls
+pub mod Meanings
+pub mod Numbers
+pub mod Schemes

@@ -1,0 +1,3 @@
+// Suites and layers on worked values, and at the edges of every argument.
+#[cfg(test)]
+mod tests;
