@@ -7,7 +7,7 @@ mod edits;
 
 // A table of 32 places, used from the first on.
 #[derive(Drop)]
-pub struct Table {
+pub(crate) struct Table {
     rows: [Row; 32],
     used: usize,
     ghost places: { length rows ≡ 32 },

@@ -18,7 +18,7 @@ const BLANK: Row = Row {
 };
 
 impl Table {
-    pub fn new() -> Table
+    pub(crate) fn new() -> Table
         ensures rows { λ r. ⌜ rowsIn r ≡ [] ⌝ }
         ensures used { λ r. ⌜ r .used ≡ 0 ⌝ }
     {
@@ -29,7 +29,7 @@ impl Table {
     }
 
     // The row at a place, or none at an unused place or past the table.
-    pub fn row(&self, place: usize) -> Option<Row>
+    pub(crate) fn row(&self, place: usize) -> Option<Row>
         ensures row { λ r. ⌜ r ≡ nth (rowsIn (now (self .entry))) place ⌝ }
         ensures past { λ r. ⌜ (32 ≤ place → r ≡ None) ⌝ }
     {
@@ -40,7 +40,7 @@ impl Table {
     }
 
     // Puts the row of a key that was just made at the first unused place.
-    pub fn enter(&mut self, serial: u32, kind: KeyKind)
+    pub(crate) fn enter(&mut self, serial: u32, kind: KeyKind)
         requires { ⌜ now self .used < 32 ⌝ }
         ensures rows { λ _. ⌜ rowsIn (now (self .exit)) ≡ rowsIn (now (self .entry)) ++ (liveRow serial kind ∷ []) ⌝ }
         ensures used { λ _. ⌜ now (self .exit) .used ≡ now (self .entry) .used + 1 ⌝ }
@@ -54,7 +54,7 @@ impl Table {
     }
 
     // Marks the row of that serial, where there is one, and no other.
-    pub fn strike(&mut self, serial: u32)
+    pub(crate) fn strike(&mut self, serial: u32)
         ensures rows { λ _. ⌜ rowsIn (now (self .exit)) ≡ struck serial (rowsIn (now (self .entry))) ⌝ }
         ensures used { λ _. ⌜ now (self .exit) .used ≡ now (self .entry) .used ⌝ }
     {
