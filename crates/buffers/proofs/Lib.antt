@@ -1,1 +1,2 @@
 pub mod OverLaws
+pub mod Searches

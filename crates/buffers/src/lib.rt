@@ -1,1 +1,2 @@
-// What calls write into buffers that their callers lend: definitions (specs/) and laws (proofs/) that other crates cite. It has no code.
+// What calls write into buffers that their callers lend, and searches through lists: definitions and laws that other crates cite.
+// It has no code.

@@ -1,29 +1,16 @@
 -- Where the first zero of a list stands.
 use Prim.Native.Nat.{ℕ, suc, _+_, _<_, _≤_}
 use lib.Dec.{eqb, ltb}
-use lib.ListN.{length, getD, take, drop, length-take}
+use lib.ListN.{length, take, length-take}
 use mathlib.Core.Bool.{Bool, true, false, cond, not}
 use mathlib.Core.List.{List, [], _∷_, _++_}
 use mathlib.Core.Logic.{inl, inr}
 use mathlib.Core.Path.{_≡_, refl, sym, ap, subst}
 use native.Mathlib.Numerals.{one-add}
 use native.Mathlib.Omega.{arith}
-use Rattle.std.proofs.shelf.Sums.{leading-drop-yes, leading-drop-no, leading-drop-all}
 use Rattle.std.proofs.shelf.Tests.{eqb-true, eqb-false, ltb-true, ltb-false}
-use Rattle.std.proofs.shelf.Ways.{tells}
 use Rattle.frame.specs.Frames.{Said, actReq, actRes, vfyReq, vfyRes, enc, tmn, error, fields}
-use Rattle.frame.specs.Details.{nonZero, zeroAt, beforeZero, detail, NoZero, EndsAtZero}
-
--- The turns of a search that has come to i.
-
-pub stops : (xs : List ℕ) (i : ℕ) → i < length xs → getD xs i 0 ≡ 0 → i + zeroAt (drop i xs) ≡ zeroAt xs → i ≡ zeroAt xs
-stops xs i h z e = let f : nonZero (getD xs i 0) ≡ false = grind (arith, tells) in omega (arith, leading-drop-no nonZero xs i 0 h f)
-
-pub goes : (xs : List ℕ) (i : ℕ) → i < length xs → (getD xs i 0 ≡ 0 → ⊥) → i + zeroAt (drop i xs) ≡ zeroAt xs → i + 1 + zeroAt (drop (i + 1) xs) ≡ zeroAt xs
-goes xs i h z e = let f : nonZero (getD xs i 0) ≡ true = grind (arith, tells) in omega (arith, leading-drop-yes nonZero xs i 0 h f)
-
-pub ends : (xs : List ℕ) (i : ℕ) → length xs ≤ i → i ≤ length xs → i + zeroAt (drop i xs) ≡ zeroAt xs → length xs ≡ zeroAt xs
-ends xs i h k e = omega (arith, leading-drop-all nonZero xs i h)
+use Rattle.frame.specs.Details.{zeroAt, beforeZero, detail, NoZero, EndsAtZero}
 
 -- The first zero in other words.
 

@@ -10,8 +10,6 @@ use lib.ListN.{length, getD, set, take, drop}
 use lib.Seq.{take-set-lt}
 use Rattle.std.proofs.shelf.Lists.{getD-take, length-take-le}
 use Rattle.std.proofs.shelf.Maps.{nth-getD, nth-past}
-use Rattle.std.proofs.shelf.Sums.{leading-drop-yes, leading-drop-no, leading-drop-all}
-use Rattle.std.proofs.shelf.Ways.{tells}
 use Rattle.std.specs.shelf.Maps.{nth}
 use Rattle.std.specs.declared.option.Option.the-variants.{Some, None}
 use Rattle.ledger.specs.declared.row.Row.{Row}
@@ -25,20 +23,6 @@ row-told rows used place d h l =
 
 pub row-empty : (rows : List Row) (used place : ℕ) → used ≤ length rows → used ≤ place → None ≡ nth (take used rows) place
 row-empty rows used place h l = sym (nth-past (take used rows) place (omega (arith, length-take-le used rows h)))
-
--- The search for a serial stops at its row, goes on past another, and ends after the last.
-pub place-here : (n : ℕ) (rows : List Row) (i : ℕ) (d : Row) → i < length rows → getD rows i d .serial ≡ n → i + placeOf n (drop i rows) ≡ placeOf n rows → i ≡ placeOf n rows
-place-here n rows i d h s e =
-    let f : not (eqb (getD rows i d .serial) n) ≡ false = grind (arith, tells) in
-    omega (arith, leading-drop-no (λ r. not (eqb (r .serial) n)) rows i d h f)
-
-pub place-past : (n : ℕ) (rows : List Row) (i : ℕ) (d : Row) → i < length rows → (getD rows i d .serial ≡ n → ⊥) → i + placeOf n (drop i rows) ≡ placeOf n rows → i + 1 + placeOf n (drop (i + 1) rows) ≡ placeOf n rows
-place-past n rows i d h s e =
-    let f : not (eqb (getD rows i d .serial) n) ≡ true = grind (arith, tells) in
-    omega (arith, leading-drop-yes (λ r. not (eqb (r .serial) n)) rows i d h f)
-
-pub place-none : (n : ℕ) (rows : List Row) (i : ℕ) → length rows ≤ i → i ≤ length rows → i + placeOf n (drop i rows) ≡ placeOf n rows → length rows ≡ placeOf n rows
-place-none n rows i h k e = omega (arith, leading-drop-all (λ r. not (eqb (r .serial) n)) rows i h)
 
 -- One row more before those that are searched: marked itself, or the place one further on.
 step : (b : Bool) (r d : Row) (rs marks : List Row) (p : ℕ) → (p < length rs → marks ≡ set rs p (marked (getD rs p d))) → cond (not b) (1 + p) 0 < length (r ∷ rs) → cond b (marked r ∷ rs) (r ∷ marks) ≡ set (r ∷ rs) (cond (not b) (1 + p) 0) (marked (getD (r ∷ rs) (cond (not b) (1 + p) 0) d))

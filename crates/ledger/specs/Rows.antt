@@ -1,7 +1,7 @@
 -- The rows of a ledger: how a key's making enters one, how its destroying marks one, and what the rows tell of the keys.
 use mathlib.Core.Path.{_≡_}
 use mathlib.Core.List.{List, [], _∷_, _++_}
-use mathlib.Core.Bool.{true, false, cond, not}
+use mathlib.Core.Bool.{Bool, true, false, cond, not}
 use Prim.Native.Nat.{ℕ, _+_}
 use lib.ListN.{length}
 use lib.Dec.{eqb}
@@ -31,9 +31,13 @@ abbrev pub struck : ℕ → List Row → List Row
 struck n [] = []
 struck n (r ∷ rs) = cond (eqb (r .serial) n) (marked r ∷ rs) (r ∷ struck n rs)
 
+-- a row of another serial
+abbrev pub hasOther : ℕ → Row → Bool
+hasOther n r = not (eqb (r .serial) n)
+
 -- the place of the row of a serial, or the number of rows
 abbrev pub placeOf : ℕ → List Row → ℕ
-placeOf n rows = leading (λ r. not (eqb (r .serial) n)) rows
+placeOf n rows = leading (hasOther n) rows
 
 -- the rows after a call that makes a key, by its answer: one more for the serial answered
 abbrev pub entered : KeyKind → Result ℕ Denial → List Row → List Row
