@@ -16,13 +16,16 @@ use Rattle.ledger.specs.declared.row.RowMark.{RowMark}
 use Rattle.ledger.specs.declared.row.RowMark.the-variants.{Live, Destroyed}
 use Rattle.ledger.specs.declared.row.Row.{Row}
 
+-- the number of each mark
 abbrev pub markNumber : RowMark → ℕ
 markNumber Live = 1
 markNumber Destroyed = 2
 
+-- the row of a key that was just made
 abbrev pub liveRow : ℕ → KeyKind → Row
 liveRow serial kind = record { serial = serial; kind = kind; mark = Live }
 
+-- the row of a key after it was destroyed: only the mark is another
 abbrev pub marked : Row → Row
 marked r = record { serial = r .serial; kind = r .kind; mark = Destroyed }
 
@@ -59,11 +62,12 @@ abbrev pub Says : RowMark → List Key → KeyKind → ℕ → Type 0
 Says Live keys kind n = isSome (valueIn keys kind n) ≡ true
 Says Destroyed keys kind n = isLive keys n ≡ false
 
+-- what the mark of a row says of its key is so
 abbrev pub TrueOf : List Key → Row → Type 0
 TrueOf keys r = Says (r .mark) keys (r .kind) (r .serial)
 
--- The rows of a ledger that was put over when `start` was the newest serial: one for each key made since, in the order made, each
--- with its serial and kind, and marked live just where its key is.
+-- The rows of a ledger that was put over when `start` was the newest serial: one for each key made since, in the order made. A row
+-- is marked live just where its key is, and has its kind then.
 pub record Told (start : ℕ) (m : Meaning) (rows : List Row) : Type 0 where
   pub count : m .newest ≡ start + length rows
   pub order : Following (start + 1) rows

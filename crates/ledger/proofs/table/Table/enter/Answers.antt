@@ -1,3 +1,4 @@
+-- One place more is used, with the new row last.
 use mathlib.Core.Path.{refl}
 use native.Mathlib.Omega.{arith}
 use Rattle.std.proofs.shelf.Lists.{take-more-set}

@@ -1,3 +1,4 @@
+-- A used place is told as its row, any other as empty.
 use borrow.Author.Needs.{needs}
 use native.Mathlib.Omega.{arith}
 use Rattle.ledger.proofs.TableLaws.{row-told, row-empty}

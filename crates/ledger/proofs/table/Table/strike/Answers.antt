@@ -1,3 +1,4 @@
+-- The row that was lent is the one of the serial; without one the table stays.
 use mathlib.Core.Path.{refl}
 use native.Mathlib.Omega.{arith}
 use Rattle.ledger.proofs.TableLaws.{lent, not-lent}

@@ -1,3 +1,4 @@
+-- The search stops at the row of the serial, and goes past every other.
 use native.Mathlib.Omega.{arith}
 use Rattle.std.proofs.shelf.Tests.{eq-eqb, ne-eqb, not-from-true, not-from-false}
 use Rattle.buffers.proofs.Searches.{stops, goes, ends}

@@ -1,4 +1,4 @@
--- The rows still tell of the keys: what the quota below and the table promise is what the lemma asks.
+-- The rows still tell of the keys: the lemma asks what the quota below and the table promise.
 use borrow.Author.Needs.{needs}
 use Rattle.ledger.proofs.RowLaws.{made-kept}
 use Rattle.ledger.proofs.layer.calls.LedgerSuite.agree.Needs as need
