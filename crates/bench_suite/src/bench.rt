@@ -7,6 +7,7 @@ mod calls;
 
 pub use calls::BenchSuite;
 
+// The root and the keys. It is not let go but closed, so that no live key is lost sight of.
 pub struct Bench {
     root: [u8; 16],
     keys: KeyStore,

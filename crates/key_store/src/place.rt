@@ -13,7 +13,7 @@ pub struct Label {
     kind: KeyKind,
 }
 
-// Room for one key. Without a live key its bytes are zeros.
+// Room for one key. Without a label no key is live here, and the bytes are zeros.
 #[derive(Drop)]
 pub struct Place {
     label: Option<Label>,

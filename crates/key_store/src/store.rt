@@ -7,7 +7,8 @@ use super::place::Place;
 
 mod calls;
 
-// The live keys, the older one in the first place.
+// At most two live keys, the older one in the first place, with serials from 1 to the newest.
+// It is not let go but ended, so that no live key is lost sight of.
 pub struct KeyStore {
     newest: u32,
     first: Place,
