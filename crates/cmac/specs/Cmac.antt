@@ -21,7 +21,7 @@ shiftLeft s = block (λ k. getD s k 0 * 2 % 256 + cond (ltb k 15) (getD s (k + 1
 abbrev pub rb : List ℕ
 rb = block (λ k. cond (eqb k 15) 0x87 0)
 
--- 2.3: a subkey from L, and the second from the first
+-- Subkeys (section 2.3): the first from L, and the second from the first
 unfoldable pub double : List ℕ → List ℕ
 double s = cond (ltb (getD s 0 0) 128) (shiftLeft s) (xorBlock (shiftLeft s) rb)
 
@@ -35,7 +35,7 @@ subkey2 ws = double (subkey1 ws)
 unfoldable pub blockAt : List ℕ → ℕ → List ℕ
 blockAt m p = block (λ k. getD m (p + k) 0)
 
--- 2.4, padding: the bytes of m, fewer than sixteen, then the bit 1, then zeros
+-- Padding (section 2.4): the bytes of m, fewer than sixteen, then the bit 1, then zeros
 abbrev pub padByte : List ℕ → ℕ → ℕ
 padByte m j = cond (ltb j (length m)) (getD m j 0) (cond (eqb j (length m)) 0x80 0)
 
