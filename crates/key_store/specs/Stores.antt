@@ -1,14 +1,15 @@
 -- The keys of a store, and what its calls answer and leave.
 use mathlib.Core.List.{List, [], _∷_, _++_}
-use mathlib.Core.Bool.{Bool, cond, _||_}
+use mathlib.Core.Bool.{Bool, cond}
 use Prim.Native.Nat.{ℕ, _+_}
 use lib.ListN.{length}
-use lib.Dec.{eqb, ltb}
+use lib.Dec.{eqb}
 use Rattle.std.specs.declared.result.Result.{Result}
 use Rattle.std.specs.declared.result.Result.the-variants.{Ok, Err}
 use Rattle.suite.specs.declared.types.KeyKind.{KeyKind}
 use Rattle.suite.specs.declared.types.Denial.{Denial}
 use Rattle.suite.specs.declared.types.Denial.the-variants.{Spent}
+use Rattle.suite.specs.Calls.{spent}
 use Rattle.suite.specs.Meanings.{Key, Meaning}
 use Rattle.key_store.specs.declared.store.KeyStore.{KeyStore}
 use Rattle.key_store.specs.Places.{keyIn}
@@ -28,9 +29,9 @@ keysOf s = keyIn (s .first) ++ keyIn (s .second)
 abbrev pub keptMeaning : List ℕ → KeyStore → Meaning
 keptMeaning root s = record { root = root; last = lastSerial; newest = newestOf s; live = keysOf s }
 
--- no further key: two are live, or the serials are used up
+-- no further key, as the suite's interface has it, whatever the root
 abbrev pub isSpent : KeyStore → Bool
-isSpent s = ltb 1 (length (keysOf s)) || eqb (newestOf s) lastSerial
+isSpent s = spent (keptMeaning [] s)
 
 -- What put answers and leaves: the newest serial and the live keys.
 
