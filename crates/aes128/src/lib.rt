@@ -1,4 +1,6 @@
 // AES-128 encryption (FIPS 197).
+#![tactic(auto)]
+
 ghost use Rattle.std.specs.Prelude.{◌≡◌};
 ghost use Rattle.aes128.specs.Keys.{words_of};
 ghost use Rattle.aes128.specs.Cipher.{schedule as schedule_of, cipher_with};

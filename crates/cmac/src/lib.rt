@@ -1,4 +1,6 @@
 // AES-CMAC (RFC 4493).
+#![tactic(auto)]
+
 ghost use Rattle.std.specs.Prelude.{◌≡◌, ◌*◌};
 ghost use Rattle.aes128.specs.Keys.{words_of};
 ghost use Rattle.cmac.specs.Cmac.{subkey1, subkey2, before as blocks_before, last_block, cmac_with, cmac as mac_of};

@@ -1,4 +1,6 @@
 // The frames of NFC-SEC: reader, writer, and the detail of an ERROR.
+#![tactic(auto)]
+
 mod detail_reader;
 mod faults;
 mod reader;

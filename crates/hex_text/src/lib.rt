@@ -1,4 +1,6 @@
 // Bytes as hexadecimal text.
+#![tactic(auto)]
+
 ghost use Rattle.std.specs.Prelude.{◌≡◌, ◌<◌, IfOk, Ok, vec_items, string_bytes};
 ghost use Rattle.hex_text.specs.Hex.{digit as digit_of, value as value_of, blank, byte as byte_of, spelled, decoded, Decodes};
 ghost use Rattle.hex_text.specs.declared.HexError.TheVariants.{NoMemory};

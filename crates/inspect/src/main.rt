@@ -1,4 +1,6 @@
 // Explains captured frames: reads lines of hexadecimal bytes, and prints what each frame is or what is wrong with it.
+#![tactic(auto)]
+
 mod explain;
 mod words;
 

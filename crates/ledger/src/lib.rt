@@ -1,4 +1,6 @@
 // A layer over any suite that makes at most 32 further keys, and keeps a table of them.
+#![tactic(auto)]
+
 mod layer;
 mod row;
 mod table;

@@ -1,3 +1,5 @@
 // Suites and layers on worked values, and at the edges of every argument.
+#![tactic(auto)]
+
 #[cfg(test)]
 mod tests;

@@ -1,4 +1,6 @@
 // Suites at work: two peers agree, verify, protect one dosing record and destroy their keys; then the same through layers.
+#![tactic(auto)]
+
 mod session;
 mod shown;
 

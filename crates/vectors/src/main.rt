@@ -1,4 +1,6 @@
 // The published vectors of FIPS 197 and RFC 4493, computed and compared.
+#![tactic(auto)]
+
 use aes128::Aes128;
 use std::io;
 
