@@ -32,7 +32,7 @@ loop-i-preserved c =
     let h : i + 1 < length text = omega arith in
     let v : byte (value (get_or text i 0)) (value (get_or text (i + 1) 0)) ≡ Some c.in-Some.b = search rules in
     let p = takes (vec_items c.loop-i.bytes) i c.in-Some.b text h e v in
-    ap (λ z. state z (i + 2) text) c.in-ok-push.ensures.items ∙ sym p ∙ c.loop-i.invariant
+    ap (λ z. state z (i + 2) text) c.in_ok-push.ensures.items ∙ sym p ∙ c.loop-i.invariant
 
 pub returns : goal.returns
 returns c = sym c.loop-i.invariant ∙ done (vec_items c.loop-i.bytes) c.loop-i.i c.args.text.now (omega arith)

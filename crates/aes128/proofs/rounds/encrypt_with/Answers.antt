@@ -10,7 +10,7 @@ more w n s x h e =
     e ∙ (ap (λ (j : ℕ). add_round_key w j (mix_columns (shift_rows (sub_bytes (rounds w (n - 1) s))))) (sym a) ∙ ap (λ (j : ℕ). rounds w j s) (sym b))
 
 pub loop-n-init : goal.loop-n-init
-loop-n-init c = c.first-key-s.ensures
+loop-n-init c = c.first_key-s.ensures
 
 pub loop-n-preserved : goal.loop-n-preserved
 loop-n-preserved c =
@@ -26,4 +26,4 @@ returns c =
     let s = add_round_key w 0 c.args.input.now in
     let n : c.loop-n.n - 1 ≡ 9 = omega arith in
     let i : state_of c.loop-n.s ≡ rounds w 9 s = c.loop-n.invariant ∙ ap (λ (j : ℕ). rounds w j s) n in
-    c.state-bytes.ensures ∙ (c.last-round.ensures ∙ ap (λ (l : List ℕ). add_round_key w 10 (shift_rows (sub_bytes l))) i)
+    c.state_bytes.ensures ∙ (c.last_round.ensures ∙ ap (λ (l : List ℕ). add_round_key w 10 (shift_rows (sub_bytes l))) i)

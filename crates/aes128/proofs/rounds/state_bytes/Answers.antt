@@ -7,7 +7,7 @@ pub returns : goal.returns
 returns c =
     let s = c.args.s in
     joined _ _ _ _ (word_bytes (get_or s 0 0)) (word_bytes (get_or s 1 0)) (word_bytes (get_or s 2 0)) (word_bytes (get_or s 3 0))
-    (to_bytes c.to-be-bytes.result (get_or s 0 0) c.to-be-bytes.ensures)
-    (to_bytes c.to-be-bytes-2.result (get_or s 1 0) c.to-be-bytes-2.ensures)
-    (to_bytes c.to-be-bytes-3.result (get_or s 2 0) c.to-be-bytes-3.ensures)
+    (to_bytes c.to_be_bytes.result (get_or s 0 0) c.to_be_bytes.ensures)
+    (to_bytes c.to_be_bytes-2.result (get_or s 1 0) c.to_be_bytes-2.ensures)
+    (to_bytes c.to_be_bytes-3.result (get_or s 2 0) c.to_be_bytes-3.ensures)
     (to_bytes c.to-be-bytes-4.result (get_or s 3 0) c.to-be-bytes-4.ensures)

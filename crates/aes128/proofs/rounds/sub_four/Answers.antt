@@ -6,8 +6,8 @@ use Rattle.aes128.proofs.rounds.sub_four.Goals as goal
 
 pub returns : goal.returns
 returns c =
-    let v : c.from-be-bytes.result ≡ word_of (sub_byte c.args.a) (sub_byte c.args.b) (sub_byte c.args.c) (sub_byte c.args.d) = omega arith in
+    let v : c.from_be_bytes.result ≡ word_of (sub_byte c.args.a) (sub_byte c.args.b) (sub_byte c.args.c) (sub_byte c.args.d) = omega arith in
     record {
       value = v;
-      bytes = bytes_of c.from-be-bytes.result (sub_byte c.args.a) (sub_byte c.args.b) (sub_byte c.args.c) (sub_byte c.args.d) v (omega arith) (omega arith) (omega arith) (omega arith);
+      bytes = bytes_of c.from_be_bytes.result (sub_byte c.args.a) (sub_byte c.args.b) (sub_byte c.args.c) (sub_byte c.args.d) v (omega arith) (omega arith) (omega arith) (omega arith);
     }

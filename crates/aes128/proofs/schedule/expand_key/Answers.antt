@@ -16,9 +16,9 @@ next i w key x h g e v =
 
 pub loop-i-init : goal.loop-i-init
 loop-i-init c =
-    let a = c.word-at.ensures.value in
-    let b = c.word-at-2.ensures.value in
-    let d = c.word-at-3.ensures.value in
+    let a = c.word_at.ensures.value in
+    let b = c.word_at-2.ensures.value in
+    let d = c.word_at-3.ensures.value in
     let e = c.word-at-4.ensures.value in
     (cc, refl)
 
@@ -27,10 +27,10 @@ unfolding next_word
 loop-i-preserved c =
     let i = c.loop-i.i in
     let w = c.loop-i.w in
-    let x : ℕ = bit_xor (get_or w (i - 4) 0) c.key-step.result in
+    let x : ℕ = bit_xor (get_or w (i - 4) 0) c.key_step.result in
     let f4 : get_or (take i w) (i - 4) 0 ≡ get_or w (i - 4) 0 = get_or-take i w (i - 4) 0 (omega arith) in
     let f1 : get_or (take i w) (i - 1) 0 ≡ get_or w (i - 1) 0 = get_or-take i w (i - 1) 0 (omega arith) in
-    let k = c.key-step.ensures in
+    let k = c.key_step.ensures in
     let v : x ≡ next_word i (take i w) = rw (f4, f1) (ap (λ (y : ℕ). bit_xor (get_or w (i - 4) 0) y) k) in
     (next i w c.args.key.now x (omega arith) (omega arith) c.loop-i.invariant.0 v, simp length-set c.loop-i.invariant.1)
 

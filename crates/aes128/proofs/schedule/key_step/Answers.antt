@@ -11,8 +11,8 @@ returns-then-i-eq0 c =
     let t = c.args.t in
     let test : eqb (i % 4) 0 ≡ true = eq-eqb (i % 4) 0 c.if-i-eq0.true in
     let k : get_or rcon_table (i / 4 - 1) 0 ≡ rcon (i / 4) = rcon_at (i / 4) (omega arith) (omega arith) in
-    let r = c.to-be-bytes.result in
-    let s : c.sub-four.result ≡ sub_word (rot_word t) = rotated r t c.sub-four.result (to_bytes r t c.to-be-bytes.ensures) c.sub-four.ensures.value in
+    let r = c.to_be_bytes.result in
+    let s : c.sub_four.result ≡ sub_word (rot_word t) = rotated r t c.sub_four.result (to_bytes r t c.to_be_bytes.ensures) c.sub_four.ensures.value in
     (ap (λ (x : ℕ). bit_xor x (get_or rcon_table (i / 4 - 1) 0)) s ∙ ap (λ (x : ℕ). bit_xor (sub_word (rot_word t)) x) k)
     ∙ sym (ap (λ (b : Bool). cond b (bit_xor (sub_word (rot_word t)) (rcon (i / 4))) t) test)
 

@@ -10,5 +10,5 @@ returns-in-len1-up c =
     let frame = c.args.frame.now in
     let some : 0 < length frame = search rules in
     let short : length frame ≤ 255 = search rules in
-    let e : read c.read-fields.result ≡ reading frame = c.read-fields.ensures ∙ sym (reading_cut frame some short) in
+    let e : read c.read_fields.result ≡ reading frame = c.read_fields.ensures ∙ sym (reading_cut frame some short) in
     record { answer = e; again = subst (WritesAgain frame) (sym e) (writes_again frame) }

@@ -7,8 +7,8 @@ use Rattle.frame.proofs.types.Message.detail.Goals as goal
 pub returns : goal.returns
 returns c =
     let x = said_by c.args.self.now.body in
-    let d = c.detail-bytes.result.now in
-    let e : d ≡ detail x = c.detail-bytes.ensures in
+    let d = c.detail_bytes.result.now in
+    let e : d ≡ detail x = c.detail_bytes.ensures in
     record {
       place = refl;
       bytes = e;
