@@ -12,4 +12,4 @@ returns c =
     (xor_words c.word_at-c0.result (get_or w 0 0) _ (word_bytes (get_or w 0 0)) c.word_at-c0.ensures.bytes refl)
     (xor_words c.word_at-c1.result (get_or w 1 0) _ (word_bytes (get_or w 1 0)) c.word_at-c1.ensures.bytes refl)
     (xor_words c.word_at-c2.result (get_or w 2 0) _ (word_bytes (get_or w 2 0)) c.word_at-c2.ensures.bytes refl)
-    (xor_words c.word-at-c3.result (get_or w 3 0) _ (word_bytes (get_or w 3 0)) c.word-at-c3.ensures.bytes refl)
+    (xor_words c.word_at-c3.result (get_or w 3 0) _ (word_bytes (get_or w 3 0)) c.word_at-c3.ensures.bytes refl)

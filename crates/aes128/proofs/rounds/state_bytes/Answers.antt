@@ -10,4 +10,4 @@ returns c =
     (to_bytes c.to_be_bytes.result (get_or s 0 0) c.to_be_bytes.ensures)
     (to_bytes c.to_be_bytes-2.result (get_or s 1 0) c.to_be_bytes-2.ensures)
     (to_bytes c.to_be_bytes-3.result (get_or s 2 0) c.to_be_bytes-3.ensures)
-    (to_bytes c.to-be-bytes-4.result (get_or s 3 0) c.to-be-bytes-4.ensures)
+    (to_bytes c.to_be_bytes-4.result (get_or s 3 0) c.to_be_bytes-4.ensures)

@@ -19,7 +19,7 @@ loop-i-init c =
     let a = c.word_at.ensures.value in
     let b = c.word_at-2.ensures.value in
     let d = c.word_at-3.ensures.value in
-    let e = c.word-at-4.ensures.value in
+    let e = c.word_at-4.ensures.value in
     (cc, refl)
 
 pub loop-i-preserved : goal.loop-i-preserved
