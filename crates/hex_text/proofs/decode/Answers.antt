@@ -3,8 +3,8 @@ use Rattle.hex_text.specs.Hex.{blank, byte, value}
 use Rattle.hex_text.proofs.Turns.{state, skips, lone, bad, takes, done}
 use Rattle.hex_text.proofs.decode.Goals as goal
 
-pub loop-i-preserved-then-is-blank : goal.loop-i-preserved-then-is-blank
-loop-i-preserved-then-is-blank c =
+pub loop-i-preserved-then-is_blank : goal.loop-i-preserved-then-is_blank
+loop-i-preserved-then-is_blank c =
     let text = c.args.text.now in
     let e : blank (get_or text c.loop-i.i 0) ≡ true = search rules in
     sym (skips (vec_items c.loop-i.bytes) c.loop-i.i text (search rules) e) ∙ c.loop-i.invariant
@@ -15,8 +15,8 @@ returns-then-i-text c =
     let e : blank (get_or text c.loop-i.i 0) ≡ false = search rules in
     sym c.loop-i.invariant ∙ lone (vec_items c.loop-i.bytes) c.loop-i.i text (search rules) e
 
-pub returns-in-default : goal.returns-in-default
-returns-in-default c =
+pub returns-in_default : goal.returns-in_default
+returns-in_default c =
     let text = c.args.text.now in
     let i = c.loop-i.i in
     let e : blank (get_or text i 0) ≡ false = search rules in

@@ -18,5 +18,5 @@ pub returns : goal.returns
 returns c =
     let bs = c.args.bytes.now in
     let e : string_bytes c.loop-b.text ≡ spelled bs = c.loop-b.invariant ∙ ap spelled (take_all c.loop-b.b-index bs c.loop-b-test.false) in
-    let bytes = All-from_get_or (λ b. b < 256) bs 0 (λ i h. omega (arith, c.ok.bytes i)) in
+    let bytes = All-from_get_or (λ b. b < 256) bs 0 (λ i h. omega (arith, c.type_inv.bytes i)) in
     record { text = e; back = ap decoded e ∙ decoded-spelled 0 bs bytes }
