@@ -1,1 +1,2 @@
+pub mod AllowanceLaws
 pub mod Allowances

@@ -3,7 +3,7 @@ ghost use Rattle.suite.specs.declared.types.KeyKind.TheVariants.{SharedSecret, L
 ghost use Rattle.suite.specs.Meanings.{value_in};
 ghost use Rattle.suite.specs.Calls.{agreed, derived, serial_answer, after_making, destroy_answer, after_destroy};
 ghost use Rattle.quota.specs.Allowances.{with_last, limited, quota_meaning, keys_made};
-ghost use Rattle.std.proofs.Common.{rules};
+ghost use Rattle.quota.specs.AllowanceLaws.{limited-formed};
 
 use suite::{Denial, KindNumbers, Role, Suite};
 
@@ -17,7 +17,7 @@ pub struct Quota<S> {
 impl<S: Suite> Quota<S> {
     // Puts a quota of k over a suite.
     pub fn new(below: S, k: u32) -> Quota<S>
-        ensures meaning { quota_meaning meaning result ≡ with_last (meaning below) (min (meaning below).last ((meaning below).newest + k)) }
+        ensures meaning { quota_meaning S.meaning result ≡ with_last (S.meaning below) (min (S.meaning below).last ((S.meaning below).newest + k)) }
         ensures below { result.below ≡ below }
         ensures left { result.left ≡ k }
     {
@@ -34,7 +34,7 @@ impl<S: Suite> Quota<S> {
 
     // Why a used-up allowance makes no shared secret of these.
     fn agree_denial(&self, seed: &[u8], offer: &[u8], role: u8) -> Denial
-        ensures { Err result ≡ agreed S.Suite.scheme (limited (meaning self.now.below) 0) seed.now offer.now role }
+        ensures { Err result ≡ agreed S.scheme (limited (S.meaning self.now.below) 0) seed.now offer.now role }
     {
         if seed.len() != 16 || (role != Role::Sender.byte() && role != Role::Recipient.byte()) {
             Denial::Unfit
@@ -47,7 +47,7 @@ impl<S: Suite> Quota<S> {
 
     // Why a used-up allowance makes no link key of that shared secret.
     fn derive_denial(&self, key: u32) -> Denial
-        ensures { Err result ≡ derived S.Suite.scheme (limited (meaning self.now.below) 0) key }
+        ensures { Err result ≡ derived S.scheme (limited (S.meaning self.now.below) 0) key }
     {
         let mut scratch = [0; 255];
         if self.is_secret(key, &mut scratch) {
@@ -60,7 +60,7 @@ impl<S: Suite> Quota<S> {
     // Whether a live shared secret has that serial: then, and only then, there is a check value of it. The scratch bytes are zeros after.
     fn is_secret(&self, key: u32, scratch: &mut [u8]) -> bool
         requires { length scratch.old ≡ 255 }
-        ensures answer { result ≡ is_some (value_in (meaning self.now.below).live SharedSecret key) }
+        ensures answer { result ≡ is_some (value_in (S.meaning self.now.below).live SharedSecret key) }
         ensures cleared { scratch.new ≡ replicate 255 0 }
     {
         let found = self.below.check(key, Role::Sender.byte(), scratch).is_ok();
@@ -71,13 +71,13 @@ impl<S: Suite> Quota<S> {
 
 // Calls that change it also say what the suite below means after, and what is left of the allowance.
 impl<S: Suite> Suite for Quota<S> {
-    ghost meaning = { quota_meaning S.Suite.meaning };
+    ghost meaning = { quota_meaning S.meaning };
 
-    ghost scheme = { S.Suite.scheme };
+    ghost scheme = { S.scheme };
 
-    ghost lawful = { Prim.search rules };
+    ghost lawful = { S.lawful };
 
-    ghost formed = { Prim.search rules };
+    ghost formed = { λ x. limited-formed (S.meaning x.below) x.left (S.formed x.below) };
 
     fn numbers() -> KindNumbers {
         S::numbers()
@@ -102,9 +102,9 @@ impl<S: Suite> Suite for Quota<S> {
     }
 
     fn agree(&mut self, seed: &[u8], offer: &[u8], role: u8) -> Result<u32, Denial>
-        ensures answer { result ≡ serial_answer (quota_meaning meaning self.old) (agreed scheme (quota_meaning meaning self.old) seed.now offer.now role) }
-        ensures after { quota_meaning meaning self.new ≡ after_making (quota_meaning meaning self.old) SharedSecret (agreed scheme (quota_meaning meaning self.old) seed.now offer.now role) }
-        ensures below { meaning self.new.below ≡ after_making (meaning self.old.below) SharedSecret (agreed scheme (quota_meaning meaning self.old) seed.now offer.now role) }
+        ensures answer { result ≡ serial_answer (quota_meaning S.meaning self.old) (agreed S.scheme (quota_meaning S.meaning self.old) seed.now offer.now role) }
+        ensures after { quota_meaning S.meaning self.new ≡ after_making (quota_meaning S.meaning self.old) SharedSecret (agreed S.scheme (quota_meaning S.meaning self.old) seed.now offer.now role) }
+        ensures below { S.meaning self.new.below ≡ after_making (S.meaning self.old.below) SharedSecret (agreed S.scheme (quota_meaning S.meaning self.old) seed.now offer.now role) }
         ensures left { self.new.left + keys_made result ≡ self.old.left }
     {
         if self.left == 0 {
@@ -116,9 +116,9 @@ impl<S: Suite> Suite for Quota<S> {
     }
 
     fn derive(&mut self, key: u32) -> Result<u32, Denial>
-        ensures answer { result ≡ serial_answer (quota_meaning meaning self.old) (derived scheme (quota_meaning meaning self.old) key) }
-        ensures after { quota_meaning meaning self.new ≡ after_making (quota_meaning meaning self.old) LinkKey (derived scheme (quota_meaning meaning self.old) key) }
-        ensures below { meaning self.new.below ≡ after_making (meaning self.old.below) LinkKey (derived scheme (quota_meaning meaning self.old) key) }
+        ensures answer { result ≡ serial_answer (quota_meaning S.meaning self.old) (derived S.scheme (quota_meaning S.meaning self.old) key) }
+        ensures after { quota_meaning S.meaning self.new ≡ after_making (quota_meaning S.meaning self.old) LinkKey (derived S.scheme (quota_meaning S.meaning self.old) key) }
+        ensures below { S.meaning self.new.below ≡ after_making (S.meaning self.old.below) LinkKey (derived S.scheme (quota_meaning S.meaning self.old) key) }
         ensures left { self.new.left + keys_made result ≡ self.old.left }
     {
         if self.left == 0 {
@@ -158,9 +158,9 @@ impl<S: Suite> Suite for Quota<S> {
     }
 
     fn destroy(&mut self, key: u32) -> Result<(), Denial>
-        ensures answer { result ≡ destroy_answer (quota_meaning meaning self.old) key }
-        ensures after { quota_meaning meaning self.new ≡ after_destroy (quota_meaning meaning self.old) key }
-        ensures below { meaning self.new.below ≡ after_destroy (meaning self.old.below) key }
+        ensures answer { result ≡ destroy_answer (quota_meaning S.meaning self.old) key }
+        ensures after { quota_meaning S.meaning self.new ≡ after_destroy (quota_meaning S.meaning self.old) key }
+        ensures below { S.meaning self.new.below ≡ after_destroy (S.meaning self.old.below) key }
         ensures left { self.new.left ≡ self.old.left }
     {
         self.below.destroy(key)

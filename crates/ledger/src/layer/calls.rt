@@ -3,9 +3,9 @@ ghost use Rattle.std.specs.List.{slice_get};
 ghost use Rattle.suite.specs.declared.types.KeyKind.TheVariants.{SharedSecret, LinkKey};
 ghost use Rattle.suite.specs.Calls.{agreed, derived, serial_answer, after_making, destroy_answer, after_destroy};
 ghost use Rattle.quota.specs.Allowances.{with_last};
+ghost use Rattle.quota.specs.AllowanceLaws.{limited-formed};
 ghost use Rattle.ledger.specs.Rows.{entered, struck_by, Told};
 ghost use Rattle.ledger.specs.Ledgers.{ledger_meaning, rows_of};
-ghost use Rattle.std.proofs.Common.{rules, arith};
 
 use super::super::row::Row;
 use super::super::table::Table;
@@ -16,10 +16,10 @@ use suite::{Denial, KeyKind, KindNumbers, Suite};
 impl<S: Suite> Ledger<S> {
     // Puts a ledger over a suite.
     pub fn new(below: S) -> Ledger<S>
-        ensures meaning { ledger_meaning meaning result ≡ with_last (meaning below) (min (meaning below).last ((meaning below).newest + 32)) }
+        ensures meaning { ledger_meaning S.meaning result ≡ with_last (S.meaning below) (min (S.meaning below).last ((S.meaning below).newest + 32)) }
         ensures below { result.below.below ≡ below }
         ensures rows { rows_of result ≡ [] }
-        ensures told { Told (meaning below).newest (ledger_meaning meaning result) (rows_of result) }
+        ensures told { Told (S.meaning below).newest (ledger_meaning S.meaning result) (rows_of result) }
     {
         Ledger {
             below: Quota::new(below, 32),
@@ -46,13 +46,13 @@ impl<S: Suite> Ledger<S> {
 
 // Calls that change it also say what the suite below means after, and what the rows are; and that the rows still tell of the keys.
 impl<S: Suite> Suite for Ledger<S> {
-    ghost meaning = { ledger_meaning S.Suite.meaning };
+    ghost meaning = { ledger_meaning S.meaning };
 
-    ghost scheme = { S.Suite.scheme };
+    ghost scheme = { S.scheme };
 
-    ghost lawful = { first_of (Prim.search rules, Prim.grind (arith, Self.row.coded.inj)) };
+    ghost lawful = { S.lawful };
 
-    ghost formed = { first_of (Prim.search rules, Prim.grind (arith, Self.row.coded.inj)) };
+    ghost formed = { λ x. limited-formed (S.meaning x.below.below) x.below.left (S.formed x.below.below) };
 
     fn numbers() -> KindNumbers {
         S::numbers()
@@ -75,11 +75,11 @@ impl<S: Suite> Suite for Ledger<S> {
     }
 
     fn agree(&mut self, seed: &[u8], offer: &[u8], role: u8) -> Result<u32, Denial>
-        ensures answer { result ≡ serial_answer (ledger_meaning meaning self.old) (agreed scheme (ledger_meaning meaning self.old) seed.now offer.now role) }
-        ensures after { ledger_meaning meaning self.new ≡ after_making (ledger_meaning meaning self.old) SharedSecret (agreed scheme (ledger_meaning meaning self.old) seed.now offer.now role) }
-        ensures below { meaning self.new.below.below ≡ after_making (meaning self.old.below.below) SharedSecret (agreed scheme (ledger_meaning meaning self.old) seed.now offer.now role) }
+        ensures answer { result ≡ serial_answer (ledger_meaning S.meaning self.old) (agreed S.scheme (ledger_meaning S.meaning self.old) seed.now offer.now role) }
+        ensures after { ledger_meaning S.meaning self.new ≡ after_making (ledger_meaning S.meaning self.old) SharedSecret (agreed S.scheme (ledger_meaning S.meaning self.old) seed.now offer.now role) }
+        ensures below { S.meaning self.new.below.below ≡ after_making (S.meaning self.old.below.below) SharedSecret (agreed S.scheme (ledger_meaning S.meaning self.old) seed.now offer.now role) }
         ensures rows { rows_of self.new ≡ entered SharedSecret result (rows_of self.old) }
-        ensures told { (start : ℕ) → Told start (ledger_meaning meaning self.old) (rows_of self.old) → Told start (ledger_meaning meaning self.new) (rows_of self.new) }
+        ensures told { (start : ℕ) → Told start (ledger_meaning S.meaning self.old) (rows_of self.old) → Told start (ledger_meaning S.meaning self.new) (rows_of self.new) }
     {
         let serial = self.below.agree(seed, offer, role)?;
         self.table.enter(serial, KeyKind::SharedSecret);
@@ -87,11 +87,11 @@ impl<S: Suite> Suite for Ledger<S> {
     }
 
     fn derive(&mut self, key: u32) -> Result<u32, Denial>
-        ensures answer { result ≡ serial_answer (ledger_meaning meaning self.old) (derived scheme (ledger_meaning meaning self.old) key) }
-        ensures after { ledger_meaning meaning self.new ≡ after_making (ledger_meaning meaning self.old) LinkKey (derived scheme (ledger_meaning meaning self.old) key) }
-        ensures below { meaning self.new.below.below ≡ after_making (meaning self.old.below.below) LinkKey (derived scheme (ledger_meaning meaning self.old) key) }
+        ensures answer { result ≡ serial_answer (ledger_meaning S.meaning self.old) (derived S.scheme (ledger_meaning S.meaning self.old) key) }
+        ensures after { ledger_meaning S.meaning self.new ≡ after_making (ledger_meaning S.meaning self.old) LinkKey (derived S.scheme (ledger_meaning S.meaning self.old) key) }
+        ensures below { S.meaning self.new.below.below ≡ after_making (S.meaning self.old.below.below) LinkKey (derived S.scheme (ledger_meaning S.meaning self.old) key) }
         ensures rows { rows_of self.new ≡ entered LinkKey result (rows_of self.old) }
-        ensures told { (start : ℕ) → Told start (ledger_meaning meaning self.old) (rows_of self.old) → Told start (ledger_meaning meaning self.new) (rows_of self.new) }
+        ensures told { (start : ℕ) → Told start (ledger_meaning S.meaning self.old) (rows_of self.old) → Told start (ledger_meaning S.meaning self.new) (rows_of self.new) }
     {
         let serial = self.below.derive(key)?;
         self.table.enter(serial, KeyKind::LinkKey);
@@ -127,11 +127,11 @@ impl<S: Suite> Suite for Ledger<S> {
     }
 
     fn destroy(&mut self, key: u32) -> Result<(), Denial>
-        ensures answer { result ≡ destroy_answer (ledger_meaning meaning self.old) key }
-        ensures after { ledger_meaning meaning self.new ≡ after_destroy (ledger_meaning meaning self.old) key }
-        ensures below { meaning self.new.below.below ≡ after_destroy (meaning self.old.below.below) key }
+        ensures answer { result ≡ destroy_answer (ledger_meaning S.meaning self.old) key }
+        ensures after { ledger_meaning S.meaning self.new ≡ after_destroy (ledger_meaning S.meaning self.old) key }
+        ensures below { S.meaning self.new.below.below ≡ after_destroy (S.meaning self.old.below.below) key }
         ensures rows { rows_of self.new ≡ struck_by key result (rows_of self.old) }
-        ensures told { (start : ℕ) → Told start (ledger_meaning meaning self.old) (rows_of self.old) → Told start (ledger_meaning meaning self.new) (rows_of self.new) }
+        ensures told { (start : ℕ) → Told start (ledger_meaning S.meaning self.old) (rows_of self.old) → Told start (ledger_meaning S.meaning self.new) (rows_of self.new) }
     {
         self.below.destroy(key)?;
         self.table.strike(key);

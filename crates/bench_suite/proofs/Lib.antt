@@ -1,0 +1,3 @@
+mod BenchLaws
+mod Masks
+mod PayloadLaws
