@@ -19,8 +19,8 @@ returns-then-text-p-eq16 c =
     let m = c.args.text.now in
     let p = c.args.p in
     let t : eqb (p + 16) (length m) ≡ true = eq-eqb (p + 16) (length m) (omega arith) in
-    c.xor-block.ensures
-    ∙ (ap (λ (x : List ℕ). xor_block x c.subkeys.result.0) c.block-at.ensures
+    c.xor_block.ensures
+    ∙ (ap (λ (x : List ℕ). xor_block x c.subkeys.result.0) c.block_at.ensures
     ∙ (ap (λ (x : List ℕ). xor_block (block_at m p) x) c.subkeys.ensures.first ∙ at_place ws m p true c.requires t))
 
 pub returns-else-text-p-eq16 : goal.returns-else-text-p-eq16
@@ -31,6 +31,6 @@ returns-else-text-p-eq16 c =
     let p = c.args.p in
     let t : eqb (p + 16) (length m) ≡ false = ne_eqb (p + 16) (length m) (λ e. c.if-text-p-eq16.false (omega arith)) in
     let d : take (length m - p) (drop p m) ≡ drop p m = take_all (length m - p) (drop p m) (simp length-drop (omega arith)) in
-    c.xor-block-else-text-p-eq16.ensures
+    c.xor_block-else-text-p-eq16.ensures
     ∙ (ap (λ (x : List ℕ). xor_block x c.subkeys.result.1) (c.pad.ensures ∙ ap padding d)
     ∙ (ap (λ (x : List ℕ). xor_block (padding (drop p m)) x) c.subkeys.ensures.second ∙ at_place ws m p false c.requires t))

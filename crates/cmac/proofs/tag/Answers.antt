@@ -10,9 +10,9 @@ loop-i-preserved c =
     let m = c.args.text.now in
     let i = c.loop-i.i in
     c.encrypt-t.ensures
-    ∙ (ap (cipher_with ws) (c.xor-block-y.ensures
-    ∙ (ap (λ (x : List ℕ). xor_block x c.block-at-b.result) c.loop-i.invariant
-    ∙ ap (λ (x : List ℕ). xor_block (chain ws m i) x) c.block-at-b.ensures))
+    ∙ (ap (cipher_with ws) (c.xor_block-y.ensures
+    ∙ (ap (λ (x : List ℕ). xor_block x c.block_at-b.result) c.loop-i.invariant
+    ∙ ap (λ (x : List ℕ). xor_block (chain ws m i) x) c.block_at-b.ensures))
     ∙ ap (λ (n : ℕ). chain ws m n) (sym (add-one i)))
 
 pub returns : goal.returns
@@ -23,6 +23,6 @@ returns c =
     let n : c.loop-i.i ≡ before m = omega arith in
     let x : c.loop-i.x ≡ chain ws m (before m) = c.loop-i.invariant ∙ ap (λ (j : ℕ). chain ws m j) n in
     c.encrypt.ensures
-    ∙ ap (cipher_with ws) (c.xor-block-y-2.ensures
-    ∙ (ap (λ (b : List ℕ). xor_block b c.loop-i.x) c.last-block-b.ensures
+    ∙ ap (cipher_with ws) (c.xor_block-y-2.ensures
+    ∙ (ap (λ (b : List ℕ). xor_block b c.loop-i.x) c.last_block-b.ensures
     ∙ ap (λ (y : List ℕ). xor_block (last_block ws m) y) x))

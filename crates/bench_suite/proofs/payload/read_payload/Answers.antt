@@ -12,9 +12,9 @@ returns c =
     let key = c.args.key.now in
     let p = c.args.payload.now in
     let out = c.args.out.now in
-    let good : is_good p ≡ true = sym c.if-not-is-good.ensures in
+    let good : is_good p ≡ true = sym c.if-not-is_good.ensures in
     let r = reads_good key p good in
     record {
-      answer = ap (λ n. Ok (Some (get_or p 0 0, n, length p - 1 - 5))) c.from-be-bytes-number.ensures ∙ sym (ap (λ o. open_answer (Ok o)) r ∙ ap (λ k. Ok (Some (get_or p 0 0, number_at p, k))) (good_length key p good));
+      answer = ap (λ n. Ok (Some (get_or p 0 0, n, length p - 1 - 5))) c.from_be_bytes-number.ensures ∙ sym (ap (λ o. open_answer (Ok o)) r ∙ ap (λ k. Ok (Some (get_or p 0 0, number_at p, k))) (good_length key p good));
       buffer = c.mask.ensures ∙ ap (λ z. over (masked key 0 z) out) (between_is p 5 (length p - 1)) ∙ sym (ap (λ o. open_written (Ok o) out) r);
     }

@@ -10,8 +10,8 @@ returns c =
     let role = c.args.role in
     let five = c.write-head.ensures.answer in
     let end : (c.write-head.result + length plain) + 1 ≡ length plain + 6 = omega arith in
-    let head = c.write-head.ensures.buffer ∙ ap (λ four. over (role ∷ get_or four 0 0 ∷ get_or four 1 0 ∷ get_or four 2 0 ∷ get_or four 3 0 ∷ []) c.args.out.now) c.to-be-bytes.ensures in
+    let head = c.write-head.ensures.buffer ∙ ap (λ four. over (role ∷ get_or four 0 0 ∷ get_or four 1 0 ∷ get_or four 2 0 ∷ get_or four 3 0 ∷ []) c.args.out.now) c.to_be_bytes.ensures in
     record {
       answer = end ∙ sym (payload-length c.args.key.now role c.args.number plain);
-      buffer = put_together c.args.key.now plain c.args.out.now c.write-head.new.out c.mask.new.out role c.args.number c.write-head.result c.sum-byte.result c.requires five head c.mask.ensures c.sum-byte.ensures;
+      buffer = put_together c.args.key.now plain c.args.out.now c.write-head.new.out c.mask.new.out role c.args.number c.write-head.result c.sum_byte.result c.requires five head c.mask.ensures c.sum_byte.ensures;
     }

@@ -7,12 +7,12 @@ unfolding double
 returns-then-s-lt128 c =
     let s = c.args.s in
     let e : ltb (get_or s 0 0) 128 ≡ true = lt-ltb (get_or s 0 0) 128 c.if-s-lt128.true in
-    c.shift-left-t.ensures ∙ sym (ap (λ (b : Bool). cond b (shift_left s) (xor_block (shift_left s) rb)) e)
+    c.shift_left-t.ensures ∙ sym (ap (λ (b : Bool). cond b (shift_left s) (xor_block (shift_left s) rb)) e)
 
 pub returns-else-s-lt128 : goal.returns-else-s-lt128
 unfolding double
 returns-else-s-lt128 c =
     let s = c.args.s in
     let e : ltb (get_or s 0 0) 128 ≡ false = le-ltb (get_or s 0 0) 128 c.if-s-lt128.false in
-    c.xor-block.ensures ∙ (ap (λ (l : List ℕ). xor_block l rb) c.shift-left-t.ensures
+    c.xor_block.ensures ∙ (ap (λ (l : List ℕ). xor_block l rb) c.shift_left-t.ensures
     ∙ sym (ap (λ (b : Bool). cond b (shift_left s) (xor_block (shift_left s) rb)) e))

@@ -6,7 +6,7 @@ use Rattle.ledger.proofs.layer.calls.LedgerSuite.destroy.Goals as goal
 
 pub returns : goal.returns
 returns g c =
-    let p = c.in-ok-destroy.ensures in
+    let p = c.in_ok-destroy.ensures in
     let a = (g.met.S.Suite.formed c.args.self.now.below.below).apart in
     search (rules, struck_kept)
 
