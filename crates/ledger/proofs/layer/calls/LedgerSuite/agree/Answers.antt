@@ -6,5 +6,5 @@ use Rattle.ledger.proofs.layer.calls.LedgerSuite.agree.Goals as goal
 pub returns : goal.returns
 returns g c = let p = c.in_ok-serial.ensures in search (rules, made_kept)
 
-pub returns-in-err-serial : goal.returns-in-err-serial
-returns-in-err-serial g c = search (rules, made_kept)
+pub returns-in_err-serial : goal.returns-in_err-serial
+returns-in_err-serial g c = search (rules, made_kept)

@@ -10,9 +10,9 @@ returns g c =
     let a = (g.met.S.Suite.formed c.args.self.now.below.below).apart in
     search (rules, struck_kept)
 
-pub returns-in-err-destroy : goal.returns-in-err-destroy
-returns-in-err-destroy g c =
-    let p = c.in-err-destroy.ensures in
+pub returns-in_err-destroy : goal.returns-in_err-destroy
+returns-in_err-destroy g c =
+    let p = c.in_err-destroy.ensures in
     let a = (g.met.S.Suite.formed c.args.self.now.below.below).apart in
-    let e = err_from_is_err_and c.from-residual.result c.from-residual.ensures.1 in
+    let e = err_from_is_err_and c.from_residual.result c.from_residual.ensures.1 in
     rw (e.1, e.2) (search (rules, struck_kept))

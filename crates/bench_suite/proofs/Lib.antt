@@ -1,3 +1,0 @@
-mod BenchLaws
-mod Masks
-mod PayloadLaws
