@@ -31,7 +31,7 @@ impl KeyKind {
 }
 
 // Why a suite denies a call.
-#[derive(Clone, Copy)]
+#[derive(Clone, Copy, Debug)]
 pub enum Denial {
     // S2: the peer's offer is not fit.
     BadOffer = 2,

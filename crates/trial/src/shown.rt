@@ -4,7 +4,7 @@ use std::io;
 use suite::{Denial, KeyKind, Role};
 
 // Why a trial did not go on.
-#[derive(Drop)]
+#[derive(Debug, Drop)]
 pub enum Stopped {
     Denied(Denial),
     Io(io::Error),
@@ -78,8 +78,8 @@ pub(super) fn show_key(
 }
 
 // A denial is an answer like any other; only an error of input or output ends the program.
-pub(super) fn report(rt: &HostRuntime, res: Result<(), Stopped>) -> Result<(), Stopped> {
-    match res {
+pub(super) fn report(rt: &HostRuntime, outcome: Result<(), Stopped>) -> Result<(), Stopped> {
+    match outcome {
         Err(Stopped::Denied(denial)) => {
             let name = denial_name(denial);
             println!(rt; "  denied: {name}")?;

@@ -3,6 +3,7 @@ use super::calls::*;
 use bench_suite::Bench;
 use key_store::KeyStore;
 use std::process::Abort;
+use std::test::Fail;
 use suite::{Denial, KeyKind, Suite};
 
 // Makes the calls on a new suite, one after the other.
@@ -178,12 +179,12 @@ fn records_cross(rt: &impl Abort, sender: &mut Bench, recipient: &mut Bench) -> 
         told(recipient.open(b, &FIRST, &mut out)),
         Ok(Some((1, 1, 2)))
     );
-    assert_eq!(rt; &out[0..2], &[0x41, 0x42]);
+    assert_eq!(rt; &out[0..2], [0x41, 0x42].as_slice());
     assert_eq!(rt;
         told(sender.open(a, &SECOND, &mut out)),
         Ok(Some((2, 2, 1)))
     );
-    assert_eq!(rt; &out[0..2], &[0x43, 0x42]);
+    assert_eq!(rt; &out[0..2], [0x43, 0x42].as_slice());
     Ok(())
 }
 

@@ -4,6 +4,7 @@ use bench_suite::Bench;
 use ledger::Ledger;
 use quota::Quota;
 use std::process::Abort;
+use std::test::Fail;
 use suite::Suite;
 
 // Makes the calls on a new bench suite under a quota of k, and tells the last serial before and after.
