@@ -1,6 +1,5 @@
 -- What the two bytes of the NFCIP-1 activation agree on.
 use Rattle.std.specs.Prelude.{ℕ, ◌/◌, ◌%◌, Bool, cond, ◌&&◌, Ok, Err, Result, ◌==◌}
-use Rattle.activation.specs.declared.states.Offered.{Offered}
 use Rattle.activation.specs.declared.states.Agreed.{Agreed}
 use Rattle.activation.specs.declared.states.Refusal.{Refusal}
 use Rattle.activation.specs.declared.states.Refusal.TheVariants.{NotSupported}

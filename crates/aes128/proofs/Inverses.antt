@@ -1,5 +1,5 @@
 -- The power 254 is the multiplicative inverse: one test over the bytes.
-use Rattle.std.proofs.Common.{◌≡◌, ℕ, ◌<◌, Bool, true, cond, eqb, refl, subst, arith}
+use Rattle.std.proofs.Common.{◌≡◌, ℕ, Bool, true, cond, eqb, refl, subst, arith}
 use Rattle.std.proofs.lemmas.Bool.{ne_eqb, eqb-true}
 use Rattle.std.specs.List.{range_with_len}
 use Rattle.aes128.specs.Field.{mul, power_low, inverse, InverseStands}

@@ -1,10 +1,10 @@
 -- Laws of the key schedule's step.
-use Rattle.std.proofs.Common.{◌≡◌, ℕ, suc, ◌-◌, ◌<◌, ◌≤◌, Bool, eqb, List, [], ◌∷◌, length, get_or, sym, refl, ap, ◌∙◌, arith}
+use Rattle.std.proofs.Common.{◌≡◌, ℕ, suc, ◌-◌, ◌<◌, ◌≤◌, List, [], ◌∷◌, get_or, refl, ap, ◌∙◌, arith}
 use Rattle.aes128.specs.Field.{mul, power_low, sub_byte}
 use Rattle.aes128.specs.Words.{byte_of, word_bytes, word_of}
 use Rattle.aes128.specs.Cipher.{sub_word, rot_word, rcon}
 use Rattle.aes128.proofs.TableRules.{entries}
-use Rattle.aes128.proofs.Words.{bytes_of_word, byte_at, to_bytes}
+use Rattle.aes128.proofs.Words.{bytes_of_word, byte_at}
 
 abbrev pub rcon_table : List ℕ
 rcon_table =

@@ -1,7 +1,7 @@
 -- The rules of the tables of a round: each entry holds four multiples of a byte of the S-box. Each is one test that antt computes over the table.
 use Rattle.std.proofs.Common.{◌≡◌, ℕ, ◌<◌, Bool, true, false, ◌&&◌, eqb, List, [], ◌∷◌, length, get_or}
-use Rattle.aes128.specs.Field.{mul, power_low, inverse, sub_byte}
-use Rattle.aes128.specs.Words.{byte_of, word_bytes}
+use Rattle.aes128.specs.Field.{mul}
+use Rattle.aes128.specs.Words.{word_bytes}
 use Rattle.std.proofs.lemmas.Bool.{and_parts, eqb-true}
 use Rattle.aes128.proofs.TableRules.{at, passes}
 

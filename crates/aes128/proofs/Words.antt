@@ -1,6 +1,6 @@
 -- Laws of words.
 use Rattle.std.proofs.Common.{◌≡◌, ℕ, ◌-◌, ◌*◌, ◌/◌, ◌%◌, ◌^◌, ◌<◌, List, [], ◌∷◌, ◌++◌, get_or, ap, ◌∙◌, arith}
-use lib.Bits.{bit_xor, bit_and, xor_shr, xor_mod}
+use lib.Bits.{bit_xor, xor_shr, xor_mod}
 use Rattle.aes128.specs.Words.{byte_of, word_bytes, word_of, xor_bytes}
 
 pub xor_byte : (x y i : ℕ) → byte_of (bit_xor x y) i ≡ bit_xor (byte_of x i) (byte_of y i)

@@ -1,8 +1,8 @@
 -- AES-128 encryption, from FIPS 197 section 5. The state is a list of sixteen bytes, the byte of row r and column c at r + 4 * c.
-use Rattle.std.specs.Prelude.{ℕ, zero, suc, ◌+◌, ◌-◌, ◌*◌, ◌/◌, ◌%◌, ◌^◌, Bool, true, false, cond, List, [], ◌∷◌, ◌++◌, map, ◌==◌, bit_xor, slice_index}
+use Rattle.std.specs.Prelude.{ℕ, zero, suc, ◌+◌, ◌-◌, ◌*◌, ◌/◌, ◌%◌, cond, List, [], ◌∷◌, ◌++◌, map, ◌==◌, bit_xor, slice_index}
 use Rattle.std.specs.List.{range_with_len}
 use Rattle.aes128.specs.Field.{mul, power_low, sub_byte}
-use Rattle.aes128.specs.Words.{byte_of, word_bytes, word_of}
+use Rattle.aes128.specs.Words.{byte_of, word_of}
 
 -- sixteen bytes, given by the place
 abbrev pub block : (ℕ → ℕ) → List ℕ

@@ -1,5 +1,5 @@
 -- The field of 256 elements as FIPS 197 section 4 has it, and the S-box by its rule (section 5.1.1).
-use Rattle.std.specs.Prelude.{◌≡◌, ℕ, zero, suc, ◌+◌, ◌*◌, ◌/◌, ◌%◌, ◌^◌, ◌<◌, Bool, true, false, cond, ◌==◌, bit_xor, nat_lt}
+use Rattle.std.specs.Prelude.{◌≡◌, ℕ, zero, suc, ◌+◌, ◌*◌, ◌/◌, ◌%◌, ◌^◌, ◌<◌, cond, ◌==◌, bit_xor, nat_lt}
 
 -- the product by x: shifted left, and reduced by x^8 + x^4 + x^3 + x + 1 where a ninth bit came out
 abbrev pub xtime : ℕ → ℕ

@@ -1,5 +1,5 @@
 -- A word is four bytes, the first one highest (FIPS 197 section 3.5).
-use Rattle.std.specs.Prelude.{ℕ, zero, suc, ◌+◌, ◌-◌, ◌*◌, ◌/◌, ◌%◌, ◌^◌, List, [], ◌∷◌, ◌++◌, bit_xor}
+use Rattle.std.specs.Prelude.{ℕ, ◌+◌, ◌-◌, ◌*◌, ◌/◌, ◌%◌, ◌^◌, List, [], ◌∷◌, bit_xor}
 
 -- the byte i of a word, for i from 0 to 3
 abbrev pub byte_of : ℕ → ℕ → ℕ

@@ -1,5 +1,5 @@
 -- The bench suite keeps the laws.
-use Rattle.std.specs.Prelude.{◌≡◌, ℕ, suc, ◌<◌, List, ◌∷◌, map, length, take, bit_xor}
+use Rattle.std.specs.Prelude.{◌≡◌, ℕ, suc, ◌<◌, List, ◌∷◌, length, take, bit_xor}
 use Rattle.std.proofs.Common.{sym, ap, ◌∙◌, arith, length-take, lit<, lit≤}
 use Rattle.std.proofs.lemmas.List.{length-map}
 use Rattle.std.proofs.lemmas.Nat.{xor_lt}

@@ -1,5 +1,5 @@
 -- What the bench suite computes, and what it means.
-use Rattle.std.specs.Prelude.{ℕ, List, [], ◌∷◌, length, take, ◌==◌}
+use Rattle.std.specs.Prelude.{◌∷◌, length, take, ◌==◌}
 use Rattle.suite.specs.Meanings.{Meaning}
 use Rattle.suite.specs.Schemes.{Scheme}
 use Rattle.key_store.specs.Stores.{kept_meaning}

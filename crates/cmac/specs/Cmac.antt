@@ -1,5 +1,5 @@
 -- AES-CMAC, from RFC 4493 section 2. A block is a list of sixteen bytes; ws is the key schedule of AES-128.
-use Rattle.std.specs.Prelude.{ℕ, zero, suc, ◌+◌, ◌-◌, ◌*◌, ◌/◌, ◌%◌, Bool, true, false, cond, List, length, drop, ◌==◌, bit_xor, nat_lt, slice_index}
+use Rattle.std.specs.Prelude.{ℕ, zero, suc, ◌+◌, ◌-◌, ◌*◌, ◌/◌, ◌%◌, cond, List, length, drop, ◌==◌, bit_xor, nat_lt, slice_index}
 use Rattle.aes128.specs.Cipher.{block, cipher_with, schedule}
 
 unfoldable pub xor_block : List ℕ → List ℕ → List ℕ

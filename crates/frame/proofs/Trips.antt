@@ -1,5 +1,5 @@
 -- Reader and writer undo each other.
-use Rattle.std.proofs.Common.{◌≡◌, ℕ, ◌+◌, ◌*◌, ◌/◌, ◌%◌, ◌≤◌, Bool, true, false, cond, not, ◌||◌, eqb, ltb, List, [], ◌∷◌, length, take, drop, Some, None, Ok, Err, Option, Result, sym, refl, ap, ◌∙◌, subst, arith}
+use Rattle.std.proofs.Common.{◌≡◌, ℕ, ◌≤◌, Bool, true, false, cond, not, ◌||◌, eqb, ltb, List, [], ◌∷◌, length, take, drop, Some, None, Ok, Err, Option, Result, sym, refl, ap, ◌∙◌, subst, arith}
 use Rattle.std.proofs.lemmas.List.{take_at}
 use Rattle.std.proofs.lemmas.Bool.{eqb-true, le-ltb}
 use Rattle.std.proofs.lemmas.Bool.Decides.{nat_tests}
@@ -11,7 +11,7 @@ use Rattle.frame.specs.declared.faults.FaultCode.{FaultCode}
 use Rattle.frame.specs.declared.faults.Refusal.{Refusal}
 use Rattle.frame.specs.Numbers.{service_code, message_code, codec}
 use Rattle.frame.specs.Frames.{Said, act_req, act_res, vfy_req, vfy_res, enc, tmn, error, Parts, kind_of, fields, sep, wire}
-use Rattle.frame.specs.Reading.{rfu_bits, svc_bits, msg_bits, coded, services, messages, service_of, message_of, named, head, shaped, Reading, message, refused, fault, with_body, with_head, reading}
+use Rattle.frame.specs.Reading.{rfu_bits, svc_bits, msg_bits, coded, services, messages, service_of, message_of, named, head, shaped, message, refused, with_body, with_head, reading}
 use Rattle.buffers.specs.Buffers.{over, length_answer, written}
 use Rattle.frame.specs.Writing.{laden, writing, numbered, ReadsBack, WritesAgain}
 

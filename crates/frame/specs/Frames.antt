@@ -1,5 +1,5 @@
 -- What a frame is: the SEP byte, the PID byte in ACT_REQ alone, and the payload.
-use Rattle.std.specs.Prelude.{ℕ, ◌+◌, ◌*◌, List, [], ◌∷◌}
+use Rattle.std.specs.Prelude.{ℕ, ◌+◌, ◌*◌, List, ◌∷◌}
 use Rattle.frame.specs.declared.types.Service.{Service}
 use Rattle.frame.specs.declared.types.MessageKind.{MessageKind}
 use Rattle.frame.specs.declared.types.MessageKind.TheVariants as msg

@@ -1,9 +1,9 @@
 -- Text that was written is read as the same bytes.
-use Rattle.std.proofs.Common.{◌≡◌, ℕ, ◌+◌, ◌*◌, ◌/◌, ◌%◌, ◌<◌, Bool, true, false, cond, List, [], ◌∷◌, ◌++◌, length, get_or, take, Some, None, Ok, Err, Option, Result, sym, refl, ap, ◌∙◌, append_assoc, arith}
+use Rattle.std.proofs.Common.{◌≡◌, ℕ, ◌+◌, ◌*◌, ◌/◌, ◌%◌, ◌<◌, false, List, [], ◌∷◌, ◌++◌, length, get_or, take, Some, Ok, sym, refl, ap, ◌∙◌, append_assoc, arith}
 use Rattle.std.proofs.lemmas.List.{take_more}
 use Rattle.std.proofs.lemmas.Bool.Decides.{nat_tests}
 use Rattle.std.specs.List.{AllByRecursion as All}
-use Rattle.hex_text.specs.Hex.{digit, spelled, value, blank, byte, before, decoded_from}
+use Rattle.hex_text.specs.Hex.{digit, spelled, value, blank, decoded_from}
 
 value-digit : (d : ℕ) → d < 16 → value (digit d) ≡ Some d
 value-digit d h = grind (arith, nat_tests)

@@ -1,13 +1,13 @@
 -- What a suite means that keeps its keys in a store: it is well formed, and put is what the calls that make a key do.
-use Rattle.std.proofs.Common.{◌≡◌, ℕ, ◌+◌, ◌<◌, ◌≤◌, Bool, true, false, cond, ◌||◌, eqb, List, [], ◌∷◌, ◌++◌, Some, None, Ok, Err, Option, Result, refl, ap, ◌∙◌, arith, lit<}
+use Rattle.std.proofs.Common.{◌≡◌, ℕ, ◌+◌, ◌<◌, ◌≤◌, Bool, true, false, cond, eqb, List, [], ◌∷◌, ◌++◌, Some, None, Ok, Err, Option, Result, refl, ap, ◌∙◌, arith, lit<}
 use Rattle.std.specs.List.{AllByRecursion as All}
 use Rattle.std.proofs.ByRecursion.{All-append}
 use Rattle.std.proofs.lemmas.Bool.{eq-eqb, ne_eqb, or_left, or_from}
 use Rattle.suite.specs.declared.types.KeyKind.{KeyKind}
 use Rattle.suite.specs.declared.types.Denial.{Denial}
 use Rattle.suite.specs.declared.types.Denial.TheVariants.{Spent}
-use Rattle.suite.specs.Calls.{serial_answer, after_making, adding}
-use Rattle.suite.specs.Meanings.{Key, Meaning, Bytes16, WellFormed, Apart, is_live}
+use Rattle.suite.specs.Calls.{serial_answer, after_making}
+use Rattle.suite.specs.Meanings.{Meaning, Bytes16, WellFormed, Apart, is_live}
 use Rattle.suite.proofs.ByteLaws.{bytes16_from}
 use Rattle.key_store.specs.declared.place.Label.{Label}
 use Rattle.key_store.specs.declared.place.Place.{Place}

@@ -1,11 +1,11 @@
 -- What each call of a suite answers and writes, and what the suite means after it.
-use Rattle.std.specs.Prelude.{ℕ, ◌+◌, Bool, true, false, cond, not, ◌||◌, List, [], ◌∷◌, ◌++◌, length, Some, None, Ok, Err, Option, Result, ◌==◌, nat_lt}
+use Rattle.std.specs.Prelude.{ℕ, ◌+◌, Bool, cond, not, ◌||◌, List, [], ◌∷◌, ◌++◌, length, Some, None, Ok, Err, Option, Result, ◌==◌, nat_lt}
 use Rattle.buffers.specs.Buffers.{over}
 use Rattle.suite.specs.declared.types.KeyKind.{KeyKind}
 use Rattle.suite.specs.declared.types.KeyKind.TheVariants.{SharedSecret, LinkKey}
 use Rattle.suite.specs.declared.types.Denial.{Denial}
 use Rattle.suite.specs.declared.types.Denial.TheVariants.{BadOffer, Spent, Unfit, Unknown}
-use Rattle.suite.specs.Meanings.{Key, Meaning, value_in, is_live, without}
+use Rattle.suite.specs.Meanings.{Meaning, value_in, is_live, without}
 use Rattle.suite.specs.Schemes.{Scheme, ok_role}
 
 -- A call that makes a key, by the key's value: the serial that it answers, and the meaning after.

@@ -1,5 +1,5 @@
 use Rattle.aes128.specs.Keys.{words_of}
-use Rattle.std.proofs.Common.{◌≡◌, ℕ, ◌+◌, ◌-◌, ◌*◌, ◌≤◌, Bool, true, false, cond, eqb, List, length, take, drop, sym, ap, ◌∙◌, arith, length-drop, eq-eqb, ne_eqb}
+use Rattle.std.proofs.Common.{◌≡◌, ℕ, ◌+◌, ◌-◌, ◌*◌, Bool, true, false, cond, eqb, List, length, take, drop, sym, ap, ◌∙◌, arith, length-drop, eq-eqb, ne_eqb}
 use Rattle.std.proofs.lemmas.List.{take_all}
 use Rattle.cmac.specs.Cmac.{last_block, before, block_at, padding, xor_block, subkey1, subkey2}
 use Rattle.cmac.proofs.last_block.Goals as goal

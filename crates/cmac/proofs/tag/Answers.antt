@@ -1,7 +1,7 @@
 use Rattle.aes128.specs.Keys.{words_of}
-use Rattle.std.proofs.Common.{◌≡◌, ℕ, suc, ◌+◌, ◌-◌, ◌*◌, ◌/◌, List, length, sym, ap, ◌∙◌, add-one, arith}
+use Rattle.std.proofs.Common.{◌≡◌, ℕ, List, sym, ap, ◌∙◌, add-one, arith}
 use Rattle.aes128.specs.Cipher.{cipher_with}
-use Rattle.cmac.specs.Cmac.{cmac_with, chain, before, block_at, last_block, xor_block}
+use Rattle.cmac.specs.Cmac.{cmac_with, chain, before, last_block, xor_block}
 use Rattle.cmac.proofs.tag.Goals as goal
 
 pub loop-i-preserved : goal.loop-i-preserved

@@ -1,4 +1,4 @@
-use Rattle.std.proofs.Common.{◌≡◌, ◌+◌, ◌<◌, ◌≤◌, true, false, [], ◌∷◌, ◌++◌, length, get_or, Some, None, vec_items, sym, ap, ◌∙◌, arith, rules}
+use Rattle.std.proofs.Common.{◌≡◌, ◌+◌, ◌<◌, true, false, length, get_or, Some, None, vec_items, sym, ap, ◌∙◌, arith, rules}
 use Rattle.hex_text.specs.Hex.{blank, byte, value}
 use Rattle.hex_text.proofs.Turns.{state, skips, lone, bad, takes, done}
 use Rattle.hex_text.proofs.decode.Goals as goal

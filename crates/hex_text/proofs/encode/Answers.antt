@@ -1,4 +1,4 @@
-use Rattle.std.proofs.Common.{◌≡◌, ◌<◌, length, string_bytes, ap, ◌∙◌, arith, take_all, rules}
+use Rattle.std.proofs.Common.{◌≡◌, ◌<◌, length, string_bytes, ap, ◌∙◌, arith, take_all}
 use Rattle.std.proofs.ByRecursion.{All-from_get_or}
 use Rattle.hex_text.specs.Hex.{spelled, decoded}
 use Rattle.hex_text.proofs.Backs.{spelled_turn, decoded-spelled}

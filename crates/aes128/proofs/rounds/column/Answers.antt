@@ -1,9 +1,9 @@
-use Rattle.std.proofs.Common.{◌≡◌, ℕ, ◌/◌, ◌%◌, List, [], ◌∷◌, refl, ap, ◌∙◌, subst, arith}
+use Rattle.std.proofs.Common.{◌≡◌, ℕ, ◌/◌, List, refl, ◌∙◌, subst, arith}
 use lib.Bits.{bit_xor, bit_and, and_mask}
 use Rattle.aes128.specs.Field.{sub_byte}
 use Rattle.aes128.specs.Words.{byte_of, word_bytes}
 use Rattle.aes128.proofs.RoundTables.{entry0, entry1, entry2, entry3}
-use Rattle.aes128.proofs.Words.{xor_word, xor_words}
+use Rattle.aes128.proofs.Words.{xor_words}
 use Rattle.aes128.proofs.rounds.column.Goals as goal
 
 at_byte : (f : ℕ → List ℕ) (w x y : ℕ) → word_bytes w ≡ f (sub_byte x) → x ≡ y → word_bytes w ≡ f (sub_byte y)

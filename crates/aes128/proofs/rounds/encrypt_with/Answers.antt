@@ -1,4 +1,4 @@
-use Rattle.std.proofs.Common.{◌≡◌, ℕ, suc, ◌+◌, ◌-◌, ◌≤◌, List, sym, ap, ◌∙◌, subst, arith}
+use Rattle.std.proofs.Common.{◌≡◌, ℕ, suc, ◌+◌, ◌-◌, ◌≤◌, List, sym, ap, ◌∙◌, arith}
 use Rattle.aes128.specs.Cipher.{rounds, cipher_with, sub_bytes, shift_rows, mix_columns, add_round_key, state_of}
 use Rattle.aes128.proofs.rounds.encrypt_with.Goals as goal
 

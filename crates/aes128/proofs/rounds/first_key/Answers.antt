@@ -1,6 +1,6 @@
-use Rattle.std.proofs.Common.{◌≡◌, get_or, refl, ap, ◌∙◌, subst}
-use Rattle.aes128.specs.Cipher.{add_round_key, state_of}
-use Rattle.aes128.specs.Words.{byte_of, word_bytes}
+use Rattle.std.proofs.Common.{get_or, refl}
+use Rattle.aes128.specs.Cipher.{add_round_key}
+use Rattle.aes128.specs.Words.{word_bytes}
 use Rattle.aes128.proofs.Words.{joined, xor_words}
 use Rattle.aes128.proofs.rounds.first_key.Goals as goal
 

@@ -1,5 +1,5 @@
-use Rattle.std.proofs.Common.{◌≡◌, ℕ, ◌/◌, ◌%◌, List, [], ◌∷◌, refl, ap, ◌∙◌, subst, arith}
-use lib.Bits.{bit_xor, bit_and, and_mask}
+use Rattle.std.proofs.Common.{◌≡◌, ◌/◌, [], ◌∷◌, refl, ◌∙◌, arith}
+use lib.Bits.{bit_and, and_mask}
 use Rattle.aes128.specs.Field.{sub_byte}
 use Rattle.aes128.specs.Words.{byte_of, word_bytes}
 use Rattle.aes128.proofs.Words.{xor_words}

@@ -1,6 +1,6 @@
-use Rattle.std.proofs.Common.{◌≡◌, refl, ap, ◌∙◌, subst, add-zero}
-use Rattle.aes128.specs.Cipher.{mix_column, sub_bytes, shift_rows, mix_columns, add_round_key, state_of}
-use Rattle.aes128.specs.Words.{byte_of, word_bytes}
+use Rattle.std.proofs.Common.{add-zero}
+use Rattle.aes128.specs.Cipher.{sub_bytes, shift_rows, mix_columns, add_round_key}
+use Rattle.aes128.specs.Words.{word_bytes}
 use Rattle.aes128.proofs.Words.{joined}
 use Rattle.aes128.proofs.rounds.round.Goals as goal
 

@@ -1,4 +1,4 @@
-use Rattle.std.proofs.Common.{◌≡◌, ℕ, List, [], ◌∷◌, ◌++◌, get_or, refl, ap, ◌∙◌, subst}
+use Rattle.std.proofs.Common.{get_or}
 use Rattle.aes128.specs.Words.{word_bytes}
 use Rattle.aes128.proofs.Words.{joined, to_bytes}
 use Rattle.aes128.proofs.rounds.state_bytes.Goals as goal

@@ -1,4 +1,4 @@
-use Rattle.std.proofs.Common.{◌≡◌, ℕ, ◌<◌, refl, ap, ◌∙◌, subst, arith}
+use Rattle.std.proofs.Common.{◌≡◌, arith}
 use Rattle.aes128.specs.Field.{sub_byte}
 use Rattle.aes128.specs.Words.{word_of}
 use Rattle.aes128.proofs.Words.{bytes_of}

@@ -1,4 +1,4 @@
-use Rattle.std.proofs.Common.{◌≡◌, ℕ, ◌+◌, ◌<◌, get_or, refl, ap, ◌∙◌, subst, arith}
+use Rattle.std.proofs.Common.{◌≡◌, ◌+◌, get_or}
 use Rattle.aes128.specs.Words.{word_of}
 use Rattle.aes128.proofs.Words.{bytes_of}
 use Rattle.aes128.proofs.rounds.word_at.Goals as goal

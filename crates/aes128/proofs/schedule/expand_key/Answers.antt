@@ -1,7 +1,7 @@
-use Rattle.std.proofs.Common.{◌≡◌, ℕ, suc, ◌+◌, ◌-◌, ◌<◌, cond, eqb, List, [], ◌∷◌, ◌++◌, length, get_or, take, set, sym, refl, ap, ◌∙◌, subst, arith, length-set}
+use Rattle.std.proofs.Common.{◌≡◌, ℕ, suc, ◌+◌, ◌-◌, ◌<◌, List, [], ◌∷◌, ◌++◌, length, get_or, take, set, sym, refl, ap, ◌∙◌, subst, arith, length-set}
 use lib.Bits.{bit_xor}
 use Rattle.std.proofs.lemmas.List.{take_more_set, take_all, get_or-take}
-use Rattle.aes128.specs.Cipher.{key_words, next_word, schedule, sub_word, rot_word, rcon}
+use Rattle.aes128.specs.Cipher.{key_words, next_word, schedule}
 use Rattle.aes128.proofs.schedule.expand_key.Goals as goal
 
 -- the word i after the front that stands, in the front's own terms

@@ -1,4 +1,4 @@
-use Rattle.std.proofs.Common.{◌≡◌, ℕ, ◌-◌, ◌/◌, ◌%◌, Bool, true, false, cond, eqb, get_or, sym, ap, ◌∙◌, arith, rules, eq-eqb}
+use Rattle.std.proofs.Common.{◌≡◌, ℕ, ◌-◌, ◌/◌, ◌%◌, Bool, true, cond, eqb, get_or, sym, ap, ◌∙◌, arith, rules, eq-eqb}
 use lib.Bits.{bit_xor}
 use Rattle.aes128.specs.Cipher.{sub_word, rot_word, rcon}
 use Rattle.aes128.proofs.KeySteps.{rcon_table, rcon_at, rotated}

@@ -1,9 +1,9 @@
 -- A good payload: its parts are what the definition reads.
-use Rattle.std.proofs.Common.{◌≡◌, ◌-◌, true, length, get_or, drop, Some, Ok, sym, refl, ap, ◌∙◌}
+use Rattle.std.proofs.Common.{◌≡◌, ◌-◌, true, length, get_or, Some, Ok, sym, ap, ◌∙◌}
 use Rattle.std.proofs.lemmas.Slice.{between_is}
 use Rattle.buffers.specs.Buffers.{over}
 use Rattle.suite.specs.Calls.{open_answer, open_written}
-use Rattle.bench_suite.specs.Payloads.{masked, is_good, number_at, front}
+use Rattle.bench_suite.specs.Payloads.{masked, is_good, number_at}
 use Rattle.bench_suite.specs.PayloadLaws.{reads_good, good_length}
 use Rattle.bench_suite.proofs.payload.read_payload.Goals as goal
 

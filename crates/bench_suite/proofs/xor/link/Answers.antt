@@ -1,5 +1,5 @@
 -- A mask by sixteen bytes 5A is the link key.
-use Rattle.std.proofs.Common.{◌≡◌, ℕ, length, replicate, ◌∙◌, rules}
+use Rattle.std.proofs.Common.{◌≡◌, length, replicate, ◌∙◌, rules}
 use Rattle.buffers.proofs.OverLaws.{over_all}
 use Rattle.bench_suite.specs.Payloads.{masked}
 use Rattle.bench_suite.specs.Masks.{masked-length, masked_alike}

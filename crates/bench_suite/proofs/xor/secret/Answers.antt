@@ -1,5 +1,5 @@
 -- A mask of sixteen bytes by sixteen is the XOR of the two.
-use Rattle.std.proofs.Common.{◌≡◌, ◌+◌, ◌≤◌, length, ◌∙◌, arith}
+use Rattle.std.proofs.Common.{◌+◌, ◌≤◌, length, ◌∙◌, arith}
 use Rattle.buffers.proofs.OverLaws.{over_all}
 use Rattle.bench_suite.specs.Masks.{masked-length, masked_straight}
 use Rattle.bench_suite.proofs.xor.secret.Goals as goal

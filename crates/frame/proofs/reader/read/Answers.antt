@@ -1,4 +1,4 @@
-use Rattle.std.proofs.Common.{◌≡◌, ◌<◌, ◌≤◌, length, sym, ◌∙◌, subst, arith, rules}
+use Rattle.std.proofs.Common.{◌≡◌, ◌<◌, ◌≤◌, length, sym, ◌∙◌, subst, rules}
 use Rattle.frame.specs.Reading.{read, reading}
 use Rattle.frame.specs.Writing.{WritesAgain}
 use Rattle.frame.proofs.Cuts.{reading_cut}
