@@ -4,11 +4,8 @@
 .PHONY: run test
 
 run:
-	@mkdir -p target
-	@rt check inspect trial >target/run.log 2>&1 || { cat target/run.log; exit 1; }
-	@target/bin/inspect <crates/inspect/stdin
-	@target/bin/trial
+	@tools/run inspect <crates/inspect/stdin
+	@tools/run trial
 
 test:
-	@refused/check.sh
-	@rt ci
+	@tools/gate

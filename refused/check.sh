@@ -3,7 +3,8 @@
 #
 # A case is one text for two libraries. Its first line is 'deps: LIB ..', the libraries of this repository that it uses, and its
 # second 'error: NAME', the one error that the bad library must get. In the rest a line that begins '//-' stands in the bad
-# library alone, and one that begins '//+' in the good twin alone. Both are made outside the repository, over the proved libraries.
+# library alone, and one that begins '//+' in the good twin alone. They are made in a repository of their own, outside this one,
+# beside a copy of its libraries: the good twins as the modules of one crate, each bad library as a crate of its own.
 set -u
 root=$(cd "$(dirname "$0")/.." && pwd -P)
 scratch=$(mktemp -d) || exit 2
@@ -14,40 +15,55 @@ header() { # CASE LINE WORD: what stands after 'WORD: ' in that line of the case
     sed -n "$2s/^$3: //p" "$1"
 }
 
-prove() { # FOLDER CASE KEEP CUT DEPS: makes a library of the case with the lines marked KEEP and without those marked CUT, and checks it
-    folder=$1
-    mkdir -p "$folder/src"
-    sed -e '1,2d' -e "/^\/\/$4/d" -e "s/^\/\/$3//" "$2" >"$folder/src/lib.rt"
-    set -- $5
-    externs=
-    for lib in "$@"; do externs="$externs --extern $lib=$root/target/rlib/$lib.rlib"; done
-    # shellcheck disable=SC2086
-    rt check "$folder" $externs -L "dependency=$root/target/rlib" >"$folder.log" 2>&1
+text() { # CASE KEEP CUT: the case with the lines marked KEEP and without those marked CUT
+    sed -e '1,2d' -e "/^\/\/$3/d" -e "s/^\/\/$2//" "$1"
 }
 
-judge() { # CASE: says what is wrong with the case, or nothing
-    label=$(basename "$1" .case)
-    deps=$(header "$1" 1 deps)
-    error=$(header "$1" 2 error)
-    if [ -z "$deps" ] || [ -z "$error" ]; then
+add_crate() { # NAME DEPS: lists a crate, and makes the folder of its sources
+    mkdir -p "$scratch/crates/$1/src"
+    echo "$1: $2" >>"$scratch/crates.txt"
+}
+
+check() { # NAME: checks that crate of the scratch repository
+    (cd "$scratch/crates/$1" && rt check) >"$scratch/$1.log" 2>&1
+}
+
+malformed() { # CASE: says what is wrong with its form, or nothing
+    if [ -z "$(header "$1" 1 deps)" ] || [ -z "$(header "$1" 2 error)" ]; then
         echo "its first lines are not 'deps: ..' and 'error: ..'"
     elif ! grep -q '^//[-+]' "$1"; then
         echo "it does not differ from its good twin"
-    elif ! prove "$scratch/${label}_good" "$1" + - "$deps" || ! grep -q '^logic=proved' "$scratch/${label}_good.log"; then
-        echo "its good twin is not proved: $(grep -m 1 'error\|no proof\|^rt:' "$scratch/${label}_good.log")"
-    elif prove "$scratch/${label}_bad" "$1" - + "$deps"; then
+    fi
+}
+
+judge() { # CASE: says what is wrong with the case, or nothing
+    bad=bad_$(basename "$1" .case)
+    error=$(header "$1" 2 error)
+    if [ -n "$(malformed "$1")" ]; then
+        malformed "$1"
+    elif check "$bad"; then
         echo "it is not refused"
     else
-        errors=$(grep -o 'error\[[a-z0-9-]*\]' "$scratch/${label}_bad.log" | sort -u | tr '\n' ' ')
+        errors=$(grep -o 'error\[[a-z0-9-]*\]' "$scratch/$bad.log" | sort -u | tr '\n' ' ')
         [ "$errors" = "error[$error] " ] || echo "it gets ${errors:-no named error }in place of error[$error]"
     fi
 }
 
-libraries=$(for case in refused/*.case; do header "$case" 1 deps; done | tr ' ' '\n' | sort -u)
-# shellcheck disable=SC2086
-if ! rt check $libraries >"$scratch/libraries.log" 2>&1; then
-    tail -n 20 "$scratch/libraries.log"
-    echo "refused programs: the libraries that they need are not proved"
+tar --exclude=out -cf - crates crates.txt | (cd "$scratch" && tar -xf -) || exit 2
+libraries=$(for case in refused/*.case; do header "$case" 1 deps; done | tr ' ' '\n' | sort -u | tr '\n' ' ')
+add_crate good_twins "$libraries"
+echo '#![tactic(auto)]' >"$scratch/crates/good_twins/src/lib.rt"
+for case in refused/*.case; do
+    label=$(basename "$case" .case)
+    echo "pub mod $label;" >>"$scratch/crates/good_twins/src/lib.rt"
+    text "$case" + - >"$scratch/crates/good_twins/src/$label.rt"
+    add_crate "bad_$label" "$(header "$case" 1 deps)"
+    { echo '#![tactic(auto)]'; text "$case" - +; } >"$scratch/crates/bad_$label/src/lib.rt"
+done
+
+if ! check good_twins; then
+    grep 'error\|no proof\|not proved\|^rt:' "$scratch/good_twins.log" | tail -n 20
+    echo "refused programs: their good twins, or the libraries below, are not proved"
     exit 1
 fi
 

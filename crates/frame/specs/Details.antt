@@ -1,6 +1,6 @@
 -- The detail of an ERROR message.
 use Rattle.std.specs.Prelude.{◌≡◌, ℕ, Bool, cond, not, ◌⊎◌, List, [], ◌∷◌, ◌++◌, length, take, ◌==◌, ◌≢◌, nat_lt}
-use Rattle.std.specs.List.{prefix_len, AllByRecursion as All}
+use Rattle.std.specs.List.{prefix_len, AllByRecursion}
 use Rattle.frame.specs.Frames.{Said, act_req, act_res, vfy_req, vfy_res, enc, tmn, error}
 
 abbrev pub non_zero : ℕ → Bool
@@ -23,7 +23,7 @@ detail (tmn p) = []
 detail (error p) = before_zero p
 
 abbrev pub NoZero : List ℕ → Type 0
-NoZero p = All (λ b. b ≢ 0) p
+NoZero p = AllByRecursion (λ b. b ≢ 0) p
 
 -- the detail d of an ERROR's payload p, in other words: d has no 00 and p is d, then 00, then anything; or p has no 00 and d is empty
 abbrev pub EndsAtZero : List ℕ → List ℕ → Type 0

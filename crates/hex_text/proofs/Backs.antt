@@ -2,7 +2,7 @@
 use Rattle.std.proofs.Common.{◌≡◌, ℕ, ◌+◌, ◌*◌, ◌/◌, ◌%◌, ◌<◌, false, List, [], ◌∷◌, ◌++◌, length, get_or, take, Some, Ok, sym, refl, ap, ◌∙◌, append_assoc, arith}
 use Rattle.std.proofs.lemmas.List.{take_more}
 use Rattle.std.proofs.lemmas.Bool.Decides.{nat_tests}
-use Rattle.std.specs.List.{AllByRecursion as All}
+use Rattle.std.specs.List.{AllByRecursion}
 use Rattle.hex_text.specs.Hex.{digit, spelled, value, blank, decoded_from}
 
 value-digit : (d : ℕ) → d < 16 → value (digit d) ≡ Some d
@@ -11,7 +11,7 @@ value-digit d h = grind (arith, nat_tests)
 blank-digit : (d : ℕ) → d < 16 → blank (digit d) ≡ false
 blank-digit d h = grind (arith, nat_tests)
 
-pub decoded-spelled : (i : ℕ) (bs : List ℕ) → All (λ b. b < 256) bs → decoded_from i (spelled bs) ≡ Ok bs
+pub decoded-spelled : (i : ℕ) (bs : List ℕ) → AllByRecursion (λ b. b < 256) bs → decoded_from i (spelled bs) ≡ Ok bs
 decoded-spelled i [] h = refl
 decoded-spelled i (b ∷ bs) h =
     let high : b / 16 < 16 = omega (arith, h.0) in

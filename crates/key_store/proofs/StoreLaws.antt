@@ -1,6 +1,6 @@
 -- What a suite means that keeps its keys in a store: it is well formed, and put is what the calls that make a key do.
 use Rattle.std.proofs.Common.{◌≡◌, ℕ, ◌+◌, ◌<◌, ◌≤◌, Bool, true, false, cond, eqb, List, [], ◌∷◌, ◌++◌, Some, None, Ok, Err, Option, Result, refl, ap, ◌∙◌, arith, lit<}
-use Rattle.std.specs.List.{AllByRecursion as All}
+use Rattle.std.specs.List.{AllByRecursion}
 use Rattle.std.proofs.ByRecursion.{All-append}
 use Rattle.std.proofs.lemmas.Bool.{eq-eqb, ne_eqb, or_left, or_from}
 use Rattle.suite.specs.declared.types.KeyKind.{KeyKind}
@@ -20,12 +20,12 @@ own_serial : (l : Label) (value : List ℕ) → is_live (labelled (Some l) value
 own_serial l value = or_left (eqb l.serial l.serial) false (eq-eqb l.serial l.serial refl)
 
 -- a fact of the value
-values_of : (label : Option Label) (value : List ℕ) → Bytes16 value → All (λ k. Bytes16 k.value) (labelled label value)
+values_of : (label : Option Label) (value : List ℕ) → Bytes16 value → AllByRecursion (λ k. Bytes16 k.value) (labelled label value)
 values_of None value h = tt
 values_of (Some l) value h = (h, tt)
 
 -- a fact of all live serials
-serials_of : (P : ℕ → Type 0) (label : Option Label) (value : List ℕ) → ((s : ℕ) → is_live (labelled label value) s ≡ true → P s) → All (λ k. P k.serial) (labelled label value)
+serials_of : (P : ℕ → Type 0) (label : Option Label) (value : List ℕ) → ((s : ℕ) → is_live (labelled label value) s ≡ true → P s) → AllByRecursion (λ k. P k.serial) (labelled label value)
 serials_of P None value h = tt
 serials_of P (Some l) value h = (h l.serial (own_serial l value), tt)
 
@@ -39,7 +39,7 @@ apart_from (Some k) (Some l) v w older =
     (or_from (eqb l.serial k.serial) false (ne_eqb l.serial k.serial (λ e. omega arith)) refl, (refl, tt))
 
 -- the value in a place has sixteen bytes
-value_of : (p : Place) → All (λ k. Bytes16 k.value) (key_in p)
+value_of : (p : Place) → AllByRecursion (λ k. Bytes16 k.value) (key_in p)
 value_of p = values_of p.label p.value (bytes16_from p.value p.long p.bytes)
 
 -- what every suite owes

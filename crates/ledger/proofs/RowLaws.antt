@@ -3,7 +3,7 @@ use Rattle.std.proofs.Common.{◌≡◌, ℕ, ◌+◌, ◌<◌, ◌≤◌, Bool,
 use Rattle.std.proofs.ByRecursion.{All-push}
 use Rattle.std.proofs.lemmas.List.{length_push}
 use Rattle.std.proofs.lemmas.Bool.{cond_both, false≢true, and_from, or_parts, or_from, ne_eqb, eq-eqb, eqb-true, eqb-false}
-use Rattle.std.specs.List.{AllByRecursion as All}
+use Rattle.std.specs.List.{AllByRecursion}
 use Rattle.suite.specs.declared.types.KeyKind.{KeyKind}
 use Rattle.suite.specs.declared.types.Denial.{Denial}
 use Rattle.suite.specs.declared.types.Denial.TheVariants.{Unknown}
@@ -87,7 +87,7 @@ follow-push : (n : ℕ) (rows : List Row) (r : Row) → Following n rows → r.s
 follow-push n [] r f e = (omega arith, tt)
 follow-push n (q ∷ rows) r f e = (f.0, follow-push (n + 1) rows r f.1 (omega arith))
 
-true-push : (n : ℕ) (rows : List Row) (ks : List Key) (k : Key) → Following n rows → n + length rows ≤ k.serial → All (TrueOf ks) rows → All (TrueOf (ks ++ (k ∷ []))) rows
+true-push : (n : ℕ) (rows : List Row) (ks : List Key) (k : Key) → Following n rows → n + length rows ≤ k.serial → AllByRecursion (TrueOf ks) rows → AllByRecursion (TrueOf (ks ++ (k ∷ []))) rows
 true-push n [] ks k f l h = tt
 true-push n (r ∷ rows) ks k f l h =
     let s = f.0 in
@@ -122,17 +122,17 @@ follow-struck n d (r ∷ rows) f =
     cond_both (eqb r.serial d) (marked r ∷ rows) (r ∷ struck d rows) (Following n) (λ e. f) (λ e. (f.0, follow-struck (n + 1) d rows f.1))
 
 -- the rows past that of the key
-true_later : (n d : ℕ) (rows : List Row) (ks : List Key) → Following n rows → d < n → All (TrueOf ks) rows → All (TrueOf (without ks d)) rows
+true_later : (n d : ℕ) (rows : List Row) (ks : List Key) → Following n rows → d < n → AllByRecursion (TrueOf ks) rows → AllByRecursion (TrueOf (without ks d)) rows
 true_later n d [] ks f l h = tt
 true_later n d (r ∷ rows) ks f l h =
     let s = f.0 in
     (says-without r.mark ks d r.kind r.serial (λ e. omega arith) h.0, true_later (n + 1) d rows ks f.1 (omega arith) h.1)
 
-true-struck : (n d : ℕ) (rows : List Row) (ks : List Key) → Apart ks → Following n rows → All (TrueOf ks) rows → All (TrueOf (without ks d)) (struck d rows)
+true-struck : (n d : ℕ) (rows : List Row) (ks : List Key) → Apart ks → Following n rows → AllByRecursion (TrueOf ks) rows → AllByRecursion (TrueOf (without ks d)) (struck d rows)
 true-struck n d [] ks a f h = tt
 true-struck n d (r ∷ rows) ks a f h =
     let s = f.0 in
-    cond_both (eqb r.serial d) (marked r ∷ rows) (r ∷ struck d rows) (All (TrueOf (without ks d)))
+    cond_both (eqb r.serial d) (marked r ∷ rows) (r ∷ struck d rows) (AllByRecursion (TrueOf (without ks d)))
     (λ e.
     let q = eqb-true r.serial d e in
     (subst (λ i. is_live (without ks d) i ≡ false) (sym q) (gone ks d a), true_later (n + 1) d rows ks f.1 (omega arith) h.1))
@@ -150,7 +150,7 @@ struck_told start m key rows a t =
     (λ e. record {
       count = c;
       order = t.order;
-      marks = subst (λ ks. All (TrueOf ks) rows) (sym (unfound m.live key e)) t.marks;
+      marks = subst (λ ks. AllByRecursion (TrueOf ks) rows) (sym (unfound m.live key e)) t.marks;
     })
 
 pub struck_kept : (start : ℕ) (m m' : Meaning) (key : ℕ) (r : Result (Unit {0}) Denial) (rows rows' : List Row) → Apart m.live → r ≡ destroy_answer m key → m' ≡ after_destroy m key → rows' ≡ struck_by key r rows → Told start m rows → Told start m' rows'

@@ -1,6 +1,6 @@
 -- The rows of a ledger: how a key's making enters one, how its destroying marks one, and what the rows tell of the keys.
 use Rattle.std.specs.Prelude.{◌≡◌, ℕ, ◌+◌, Bool, true, false, cond, not, List, [], ◌∷◌, ◌++◌, length, is_some, Ok, Err, Result, ◌==◌}
-use Rattle.std.specs.List.{prefix_len, AllByRecursion as All}
+use Rattle.std.specs.List.{prefix_len, AllByRecursion}
 use Rattle.suite.specs.declared.types.KeyKind.{KeyKind}
 use Rattle.suite.specs.declared.types.Denial.{Denial}
 use Rattle.suite.specs.Meanings.{Key, Meaning, value_in, is_live}
@@ -63,4 +63,4 @@ TrueOf keys r = Says r.mark keys r.kind r.serial
 pub record Told (start : ℕ) (m : Meaning) (rows : List Row) : Type 0 where
   pub count : m.newest ≡ start + length rows
   pub order : Following (start + 1) rows
-  pub marks : All (TrueOf m.live) rows
+  pub marks : AllByRecursion (TrueOf m.live) rows

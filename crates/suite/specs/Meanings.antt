@@ -1,11 +1,11 @@
 -- What a suite means at one moment: its root, its serials and its live keys.
 use Rattle.std.specs.Prelude.{◌≡◌, ℕ, ◌^◌, ◌<◌, ◌≤◌, Bool, false, cond, ◌&&◌, ◌||◌, List, [], ◌∷◌, length, Some, None, Option, ◌==◌}
-use Rattle.std.specs.List.{AllByRecursion as All}
+use Rattle.std.specs.List.{AllByRecursion}
 use Rattle.suite.specs.declared.types.KeyKind.{KeyKind}
 use Rattle.suite.specs.Numbers.{kind_number}
 
 abbrev pub Bytes : List ℕ → Type 0
-Bytes xs = All (λ x. x < 256) xs
+Bytes xs = AllByRecursion (λ x. x < 256) xs
 
 -- a root, a seed or the value of a key
 pub record Bytes16 (xs : List ℕ) : Type 0 where
@@ -51,6 +51,6 @@ pub record WellFormed (m : Meaning) : Type 0 where
   pub root : Bytes16 m.root
   pub last : m.last < 2 ^ 32
   pub newest : m.newest ≤ m.last
-  pub values : All (λ k. Bytes16 k.value) m.live
-  pub serials : All (λ k. (1 ≤ k.serial) × (k.serial ≤ m.newest)) m.live
+  pub values : AllByRecursion (λ k. Bytes16 k.value) m.live
+  pub serials : AllByRecursion (λ k. (1 ≤ k.serial) × (k.serial ≤ m.newest)) m.live
   pub apart : Apart m.live
