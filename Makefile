@@ -8,4 +8,4 @@ run:
 	@tools/run trial
 
 test:
-	@tools/gate
+	@.ci/run

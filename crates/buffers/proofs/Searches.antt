@@ -1,4 +1,4 @@
--- A search through a list for the first element that a test fails, `leading p xs` places on: the turns of a loop that has come to i.
+-- A search through a list for the first element that a test fails, `prefix_len p xs` places on: the turns of a loop that has come to i.
 use Rattle.std.proofs.Common.{◌≡◌, ℕ, ◌+◌, ◌<◌, ◌≤◌, Bool, true, false, List, length, get_or, drop, arith}
 use Rattle.std.proofs.lemmas.List.Sums.{prefix_len-drop_yes, prefix_len-drop_no, prefix_len-drop_all}
 use Rattle.std.specs.List.{prefix_len}
