@@ -8,7 +8,7 @@ usage: python3 tools/respell.py        at the top of the repository
 - The crate `hex` has the name of a library of the toolchain, and becomes `hex_text`.
 
 Functions of src/ are in snake case already and keep their names, as do strings, inputs and outputs. Types, modules and facts are in
-upper camel case and keep theirs. The script stops where two names would fall together.
+upper camel case and keep theirs. The script stops where two names that one file declares would fall together.
 """
 
 import os
@@ -34,7 +34,6 @@ OTHER = {"role-byte": "role_byte-small"}
 
 WORD = re.compile(r"(?<![A-Za-z0-9_'-])[A-Za-z_][A-Za-z0-9_']*(?:-[A-Za-z0-9_']+)*")
 CAMEL = re.compile(r"[a-z][a-z0-9]*(?:[A-Z][a-z0-9]*)+'*")
-HEX = re.compile(r"0x[0-9A-Fa-f]")
 
 
 def snake(word):
@@ -60,15 +59,15 @@ def texts():
                     yield os.path.join(folder, name)
 
 
-def clear_of_strings(text):
-    """The places of string literals and comments of Rust, where nothing is renamed."""
+def strings(text):
+    """The places of the string literals of Rust, where nothing is renamed."""
     return [(m.start(), m.end()) for m in re.finditer(r'b?"(?:[^"\\\n]|\\.)*"', text)]
 
 
 def respell(path):
     with open(path, encoding="utf-8") as f:
         text = f.read()
-    kept = clear_of_strings(text) if not path.endswith(".antt") else []
+    kept = strings(text) if not path.endswith(".antt") else []
 
     def turn(m):
         if any(a <= m.start() < b for a, b in kept) or text[max(0, m.start() - 1) : m.start()].isdigit():
