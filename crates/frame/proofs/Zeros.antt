@@ -1,5 +1,5 @@
 -- Where the first zero of a list stands.
-use Rattle.std.proofs.Common.{◌≡◌, ℕ, suc, ◌+◌, ◌<◌, ◌≤◌, Bool, true, false, cond, not, eqb, ltb, List, [], ◌∷◌, ◌++◌, length, take, sym, refl, ap, subst, inl, inr, one-add, arith, length-take}
+use Rattle.std.proofs.Common.{Option, Some, None, position, ◌≡◌, ℕ, suc, ◌+◌, ◌<◌, ◌≤◌, Bool, true, false, cond, not, eqb, ltb, List, [], ◌∷◌, ◌++◌, length, take, sym, refl, ap, ◌∙◌, subst, inl, inr, one-add, arith, length-take}
 use Rattle.std.proofs.lemmas.Bool.{eqb-true, eqb-false, ltb-true, ltb-false}
 use Rattle.frame.specs.Frames.{Said, act_req, act_res, vfy_req, vfy_res, enc, tmn, error, fields}
 use Rattle.frame.specs.Details.{zero_at, before_zero, detail, NoZero, EndsAtZero}
@@ -53,3 +53,14 @@ detail_part (error p) = part_at p (ltb (zero_at p) (length p)) refl
 
 pub detail_ends : (x : Said) (p : List ℕ) → x ≡ error p → EndsAtZero p (detail x)
 detail_ends x p e = subst (λ y. EndsAtZero p (detail y)) (sym e) (ends_at_zero p)
+
+-- what stands before a place that a search found
+abbrev pub before : List ℕ → Option ℕ → List ℕ
+before p (Some n) = take n p
+before p None = []
+
+pub before_zero_found : (p : List ℕ) (r : Option ℕ) → r ≡ position (λ b. eqb b 0) p → before_zero p ≡ before p r
+before_zero_found p r e =
+    let z = zero_at p in
+    let s = elim (ltb z (length p)) as (λ t. cond t (take z p) [] ≡ before p (cond t (Some z) None)) [ true ↦ refl | false ↦ refl ] in
+    s ∙ ap (before p) (sym e)
