@@ -1,5 +1,5 @@
 -- Reader and writer undo each other.
-use Rattle.std.proofs.Common.{◌≡◌, ℕ, ◌≤◌, Bool, true, false, cond, not, ◌||◌, eqb, ltb, List, [], ◌∷◌, length, take, drop, Some, None, Ok, Err, Option, Result, sym, refl, ap, ◌∙◌, subst, arith}
+use Rattle.std.proofs.Common.{◌≡◌, ℕ, Bool, true, false, cond, not, eqb, ltb, List, [], ◌∷◌, length, take, drop, Some, None, Ok, Err, Option, Result, sym, refl, ap, ◌∙◌, subst, arith}
 use Rattle.std.proofs.lemmas.List.{take_at}
 use Rattle.std.proofs.lemmas.Bool.{eqb-true, le-ltb}
 use Rattle.std.proofs.lemmas.Bool.Decides.{nat_tests}
@@ -11,7 +11,7 @@ use Rattle.frame.specs.declared.faults.FaultCode.{FaultCode}
 use Rattle.frame.specs.declared.faults.Refusal.{Refusal}
 use Rattle.frame.specs.Numbers.{service_code, message_code, codec}
 use Rattle.frame.specs.Frames.{Said, act_req, act_res, vfy_req, vfy_res, enc, tmn, error, Parts, kind_of, fields, sep, wire}
-use Rattle.frame.specs.Reading.{rfu_bits, svc_bits, msg_bits, coded, services, messages, service_of, message_of, named, head, shaped, message, refused, with_body, with_head, reading}
+use Rattle.frame.specs.Reading.{rfu_bits, svc_bits, msg_bits, coded, services, messages, service_of, message_of, named, head, shaped, Reading, message, refused, with_body, with_head, reading}
 use Rattle.buffers.specs.Buffers.{over, length_answer, written}
 use Rattle.frame.specs.Writing.{laden, writing, numbered, ReadsBack, WritesAgain}
 
@@ -97,12 +97,12 @@ taken : (frame : List ℕ) (x : Parts) → reading frame ≡ message x → Taken
 taken [] x e = never (cc)
 taken (b ∷ rest) x e = taken_at b rest x (ltb 255 (length (b ∷ rest))) refl e
 
-pub writes_again : (frame : List ℕ) → WritesAgain frame (reading frame)
-writes_again frame x room e h =
-    let t = taken frame x e in
-    let r : ltb room 255 ≡ false = le-ltb room 255 h in
-    let s : ltb 255 (length (wire x)) ≡ false = ap (λ z. ltb 255 (length z)) t.bytes ∙ t.short in
-    rw (r, s, t.light, t.bytes)
+pub writes_again : (frame : List ℕ) (r : Reading) → r ≡ reading frame → WritesAgain frame r
+writes_again frame r is x room e h =
+    let t = taken frame x (sym is ∙ e) in
+    let enough : ltb room 255 ≡ false = le-ltb room 255 h in
+    let short : ltb 255 (length (wire x)) ≡ false = ap (λ z. ltb 255 (length z)) t.bytes ∙ t.short in
+    rw (enough, short, t.light, t.bytes)
 
 -- From a message to bytes and back.
 
@@ -146,7 +146,3 @@ reads_back x (Ok n) old new h k =
     let is : n ≡ length (wire x) = grind (arith, nat_tests) in
     let all : new ≡ over (wire x) old = grind (arith, nat_tests) in
     ap reading (ap (take n) all ∙ take_at (wire x) (drop (length (wire x)) old) n (sym is)) ∙ reads x s light
-
--- where no condition refuses it, the frame is written
-pub writing_ok : (x : Parts) (room : ℕ) → 255 ≤ room → not (ltb 254 (length (fields x.said)) || laden x.said) ≡ true → writing x room ≡ Ok (wire x)
-writing_ok x room h e = grind (arith, nat_tests)

@@ -18,6 +18,7 @@ fn first_zero(payload: &[u8]) -> Option<usize>
 }
 
 // The bytes before the first zero, and none where there is no zero.
+#[tactic(auto, using(crate::proofs::Zeros::before_zero_found))]
 fn before_zero(payload: &[u8]) -> &[u8]
     ensures { result.now ≡ before_zero payload.now }
 {
