@@ -55,20 +55,19 @@ record Shaped (k : MessageKind) (rest : List ℕ) (x : Said) : Type 0 where
   bytes : fields x ≡ rest
   light : laden x ≡ false
 
--- the reader's message is y, which has the bytes that were read
-shaped_as : (k : MessageKind) (rest : List ℕ) (y x : Said) → Shaped k rest y → ◌≡◌ {A = Result Said FaultCode} (Ok y) (Ok x) → Shaped k rest x
-shaped_as k rest y x h e = let same : y ≡ x = cc in subst (Shaped k rest) same h
+shaped_as : (y x : Said) → laden y ≡ false → ◌≡◌ {A = Result Said FaultCode} (Ok y) (Ok x) → Shaped (kind_of y) (fields y) x
+shaped_as y x light e = let same : y ≡ x = cc in subst (Shaped (kind_of y) (fields y)) same (record { kind = refl; bytes = refl; light = light })
 
 shaped_is : (k : MessageKind) (rest : List ℕ) (x : Said) → shaped k rest ≡ Ok x → Shaped k rest x
 shaped_is msg.ActReq [] x e = never (cc)
-shaped_is msg.ActReq (pid ∷ p) x e = shaped_as _ _ (act_req pid p) x (record { kind = refl; bytes = refl; light = refl }) e
-shaped_is msg.ActRes p x e = shaped_as _ _ (act_res p) x (record { kind = refl; bytes = refl; light = refl }) e
-shaped_is msg.VfyReq p x e = shaped_as _ _ (vfy_req p) x (record { kind = refl; bytes = refl; light = refl }) e
-shaped_is msg.VfyRes p x e = shaped_as _ _ (vfy_res p) x (record { kind = refl; bytes = refl; light = refl }) e
-shaped_is msg.Enc p x e = shaped_as _ _ (enc p) x (record { kind = refl; bytes = refl; light = refl }) e
-shaped_is msg.Tmn [] x e = shaped_as _ _ (tmn []) x (record { kind = refl; bytes = refl; light = refl }) e
+shaped_is msg.ActReq (pid ∷ p) x e = shaped_as (act_req pid p) x refl e
+shaped_is msg.ActRes p x e = shaped_as (act_res p) x refl e
+shaped_is msg.VfyReq p x e = shaped_as (vfy_req p) x refl e
+shaped_is msg.VfyRes p x e = shaped_as (vfy_res p) x refl e
+shaped_is msg.Enc p x e = shaped_as (enc p) x refl e
+shaped_is msg.Tmn [] x e = shaped_as (tmn []) x refl e
 shaped_is msg.Tmn (y ∷ p) x e = never (cc)
-shaped_is msg.Error p x e = shaped_as _ _ (error p) x (record { kind = refl; bytes = refl; light = refl }) e
+shaped_is msg.Error p x e = shaped_as (error p) x refl e
 
 -- a frame that is read as a message is the bytes of that message, which the writer does not refuse
 record Taken (frame : List ℕ) (x : Parts) : Type 0 where
