@@ -1,7 +1,10 @@
 -- Text that was written is read as the same bytes.
-use Rattle.std.proofs.Common.{◌≡◌, ℕ, ◌+◌, ◌*◌, ◌/◌, ◌%◌, ◌<◌, false, List, [], ◌∷◌, ◌++◌, length, get_or, take, Some, Ok, sym, refl, ap, ◌∙◌, append_assoc, arith}
+use Rattle.std.proofs.Common.{◌≡◌, ℕ, ◌+◌, ◌*◌, ◌/◌, ◌%◌, ◌<◌, false, List, [], ◌∷◌, ◌++◌, ◌-◌, ◌^◌, true, length, get_or, take, Some, Option, Ok, sym, refl, ap, subst, ◌∙◌, arith}
 use Rattle.std.proofs.lemmas.List.{take_more}
 use Rattle.std.proofs.lemmas.Bool.Decides.{nat_tests}
+use Rattle.std.proofs.lemmas.Fmt.{hex_byte}
+use Rattle.std.specs.Fmt.{AppendsText, padded_integral, format_spec, digits}
+use Rattle.std.specs.Option.{option_map}
 use Rattle.std.specs.List.{AllByRecursion}
 use Rattle.hex_text.specs.Hex.{digit, spelled, value, blank, decoded_from}
 
@@ -24,12 +27,14 @@ spelled-append : (xs ys : List ℕ) → spelled (xs ++ ys) ≡ spelled xs ++ spe
 spelled-append [] ys = refl
 spelled-append (x ∷ xs) ys = ap (λ z. digit (x / 16) ∷ digit (x % 16) ∷ z) (spelled-append xs ys)
 
--- one byte more
-pub spelled_more : (bs : List ℕ) (i : ℕ) → i < length bs → spelled (take (i + 1) bs) ≡ (spelled (take i bs) ++ (digit (get_or bs i 0 / 16) ∷ [])) ++ (digit (get_or bs i 0 % 16) ∷ [])
-spelled_more bs i h =
-    let b = get_or bs i 0 in
-    ap spelled (take_more bs i 0 h) ∙ spelled-append (take i bs) (b ∷ []) ∙ sym (append_assoc (spelled (take i bs)) (digit (b / 16) ∷ []) (digit (b % 16) ∷ []))
+-- what `{:02X}` writes of a number whose digits are ds
+abbrev pub laid_out : Option (List ℕ) → Option (List ℕ)
+laid_out ds = option_map (padded_integral (format_spec 32 0 4 2 (2 ^ 64 - 1)) false []) ds
 
--- one turn of the writer: two digits are pushed, each as one byte of text
-pub spelled_turn : (bs : List ℕ) (i d e : ℕ) (t u v one two : List ℕ) → i < length bs → t ≡ spelled (take i bs) → d ≡ digit (get_or bs i 0 / 16) → e ≡ digit (get_or bs i 0 % 16) → one ≡ d ∷ [] → two ≡ e ∷ [] → u ≡ t ++ one → v ≡ u ++ two → v ≡ spelled (take (i + 1) bs)
-spelled_turn bs i d e t u v one two h a b c p q r s = let m = spelled_more bs i h in cc
+-- one turn of the writer
+pub spelled_turn : (bs : List ℕ) (i : ℕ) (ds : Option (List ℕ)) (old new : List ℕ) → i < length bs → get_or bs i 0 < 256 → ds ≡ Some (digits 16 true (get_or bs i 0)) → AppendsText old new (laid_out ds) → old ≡ spelled (take i bs) → new ≡ spelled (take (i + 1) bs)
+spelled_turn bs i ds old new h b e w o =
+    let x = get_or bs i 0 in
+    let two : laid_out ds ≡ Some (spelled (x ∷ [])) = rw e (ap Some (hex_byte true x b)) in
+    let a : new ≡ old ++ spelled (x ∷ []) = subst (AppendsText old new) two w in
+    a ∙ ap (λ t. t ++ spelled (x ∷ [])) o ∙ sym (ap spelled (take_more bs i 0 h) ∙ spelled-append (take i bs) (x ∷ []))
