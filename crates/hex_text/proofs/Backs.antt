@@ -1,10 +1,9 @@
 -- Text that was written is read as the same bytes.
-use Rattle.std.proofs.Common.{◌≡◌, ℕ, ◌+◌, ◌*◌, ◌/◌, ◌%◌, ◌<◌, false, List, [], ◌∷◌, ◌++◌, ◌-◌, ◌^◌, true, length, get_or, take, Some, Option, Ok, sym, refl, ap, subst, ◌∙◌, arith}
+use Rattle.std.proofs.Common.{◌≡◌, ℕ, ◌+◌, ◌*◌, ◌/◌, ◌%◌, ◌<◌, false, List, [], ◌∷◌, ◌++◌, ◌-◌, ◌^◌, true, length, get_or, take, Some, Ok, refl, ap, ◌∙◌, arith}
 use Rattle.std.proofs.lemmas.List.{take_more}
 use Rattle.std.proofs.lemmas.Bool.Decides.{nat_tests}
 use Rattle.std.proofs.lemmas.Fmt.{hex_byte}
-use Rattle.std.specs.Fmt.{AppendsText, padded_integral, format_spec, digits}
-use Rattle.std.specs.Option.{option_map}
+use Rattle.std.specs.Fmt.{padded_integral, format_spec, digits}
 use Rattle.std.specs.List.{AllByRecursion}
 use Rattle.hex_text.specs.Hex.{digit, spelled, value, blank, decoded_from}
 
@@ -27,14 +26,10 @@ spelled-append : (xs ys : List ℕ) → spelled (xs ++ ys) ≡ spelled xs ++ spe
 spelled-append [] ys = refl
 spelled-append (x ∷ xs) ys = ap (λ z. digit (x / 16) ∷ digit (x % 16) ∷ z) (spelled-append xs ys)
 
--- what `{:02X}` writes of a number whose digits are ds
-abbrev pub laid_out : Option (List ℕ) → Option (List ℕ)
-laid_out ds = option_map (padded_integral (format_spec 32 0 4 2 (2 ^ 64 - 1)) false []) ds
+-- what `{:02X}` writes of a byte
+pub two_capitals : (b : ℕ) → b < 256 → padded_integral (format_spec 32 0 4 2 (2 ^ 64 - 1)) false [] (digits 16 true b) ≡ spelled (b ∷ [])
+two_capitals b h = hex_byte true b h
 
--- one turn of the writer
-pub spelled_turn : (bs : List ℕ) (i : ℕ) (ds : Option (List ℕ)) (old new : List ℕ) → i < length bs → get_or bs i 0 < 256 → ds ≡ Some (digits 16 true (get_or bs i 0)) → AppendsText old new (laid_out ds) → old ≡ spelled (take i bs) → new ≡ spelled (take (i + 1) bs)
-spelled_turn bs i ds old new h b e w o =
-    let x = get_or bs i 0 in
-    let two : laid_out ds ≡ Some (spelled (x ∷ [])) = rw e (ap Some (hex_byte true x b)) in
-    let a : new ≡ old ++ spelled (x ∷ []) = subst (AppendsText old new) two w in
-    a ∙ ap (λ t. t ++ spelled (x ∷ [])) o ∙ sym (ap spelled (take_more bs i 0 h) ∙ spelled-append (take i bs) (x ∷ []))
+-- one byte more
+pub spelled_more : (bs : List ℕ) (i : ℕ) → i < length bs → spelled (take (i + 1) bs) ≡ spelled (take i bs) ++ spelled (get_or bs i 0 ∷ [])
+spelled_more bs i h = ap spelled (take_more bs i 0 h) ∙ spelled-append (take i bs) (get_or bs i 0 ∷ [])

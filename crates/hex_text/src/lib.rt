@@ -51,6 +51,7 @@ fn is_blank(c: u8) -> bool
     matches!(c, b' ' | b'\t' | b'\r')
 }
 
+// By ranges of bytes: `char::to_digit` answers a u32, and would need casts on both sides.
 fn value(c: u8) -> Option<u8>
     ensures { result ≡ value_of c }
 {
@@ -69,6 +70,7 @@ fn byte(high: u8, low: u8) -> Option<u8>
 }
 
 // Reads a line of bytes.
+#[tactic(auto, using(crate::proofs::Turns::skips, crate::proofs::Turns::takes))]
 pub fn decode(heap: Global, text: &[u8]) -> Result<Vec<u8>, HexError>
     ensures { Decodes vec_items text.now result }
 {
@@ -89,6 +91,7 @@ pub fn decode(heap: Global, text: &[u8]) -> Result<Vec<u8>, HexError>
 }
 
 // Writes bytes as capital digits, two to a byte, with nothing between.
+#[tactic(auto, using(crate::proofs::Backs::two_capitals, crate::proofs::Backs::spelled_more))]
 pub fn encode(heap: Global, bytes: &[u8]) -> Result<String, AllocError>
     ensures text { IfOk result (λ t. string_bytes t ≡ spelled bytes.now) }
     ensures back { IfOk result (λ t. decoded (string_bytes t) ≡ Ok bytes.now) }

@@ -1,17 +1,8 @@
-use Rattle.std.proofs.Common.{◌≡◌, ◌<◌, length, get_or, string_bytes, ap, ◌∙◌, arith, take_all}
+use Rattle.std.proofs.Common.{◌≡◌, ◌<◌, string_bytes, ap, ◌∙◌, arith, take_all}
 use Rattle.std.proofs.ByRecursion.{All-from_get_or}
 use Rattle.hex_text.specs.Hex.{spelled, decoded}
-use Rattle.hex_text.proofs.Backs.{spelled_turn, decoded-spelled}
+use Rattle.hex_text.proofs.Backs.{decoded-spelled}
 use Rattle.hex_text.proofs.encode.Goals as goal
-
-pub loop-b-preserved : goal.loop-b-preserved
-loop-b-preserved c =
-    let bs = c.args.bytes.now in
-    let i = c.loop-b.b-index in
-    let some : i < length bs = omega arith in
-    let byte : get_or bs i 0 < 256 = omega (arith, c.type_inv.bytes i) in
-    let w = rw c.laid_out.ensures at c.in_ok-write.ensures.bytes in
-    spelled_turn bs i _ _ _ some byte c.in_radix.ensures w c.loop-b.invariant
 
 pub returns-clause-back : goal.returns-clause-back
 returns-clause-back c =
