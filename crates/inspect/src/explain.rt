@@ -13,14 +13,11 @@ fn bytes_text(heap: Global, bytes: &[u8]) -> io::Result<String> {
 
 // The printable characters as they are, and a dot for any other.
 fn printable(heap: Global, bytes: &[u8]) -> io::Result<String> {
-    let mut text = String::new(heap);
-    for b in bytes {
-        text.push(match b {
-            b' '..=b'~' => *b as char,
-            _ => '.',
-        })?;
-    }
-    Ok(text)
+    let shown = bytes.iter().map(|b| match b {
+        b' '..=b'~' => *b as char,
+        _ => '.',
+    });
+    Ok(shown.collect(heap)?)
 }
 
 fn show_detail(rt: &HostRuntime, detail: Detail<'_>) -> io::Result<()> {

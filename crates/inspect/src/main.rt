@@ -7,6 +7,7 @@ use explain::explain;
 use std::io;
 use std::io::{BufRead, BufReader};
 
+// Not `trim_ascii`, which drops form feeds too: a line of form feeds is not empty.
 fn trimmed(mut line: &[u8]) -> &[u8] {
     while let [b' ' | b'\t' | b'\r', rest @ ..] = line {
         line = rest;
