@@ -1,6 +1,5 @@
 -- The words for services, messages, refusals and codec faults: one definition for each enum.
-use Rattle.std.specs.Prelude.{ℕ, List, ◌++◌, codes}
-use Rattle.std.proofs.Math.Utf8.{encode}
+use Rattle.std.specs.Prelude.{ℕ, List, ◌++◌, codes, encode_utf8}
 use Rattle.frame.specs.declared.types.Service.{Service}
 use Rattle.frame.specs.declared.types.Service.TheVariants.{Sse, Sch}
 use Rattle.frame.specs.declared.types.MessageKind.{MessageKind}
@@ -32,7 +31,7 @@ refusal_words FrameLength = codes "a frame has 1 to 255 bytes"
 
 -- the name of a fault: its letter and its digit
 abbrev pub code_words : FaultCode → List ℕ
-code_words c = encode c.letter ++ encode c.digit
+code_words c = encode_utf8 c.letter ++ encode_utf8 c.digit
 
 abbrev pub fault_words : CodecFault → List ℕ
 fault_words RfuBit = codes "a bit reserved for future use (8 or 7 of SEP) is ONE"

@@ -27,6 +27,7 @@ impl Service {
     }
 }
 
+// Of the SVC bits.
 impl TryFrom<u8> for Service {
     type Error = CodecFault;
 
@@ -41,6 +42,7 @@ impl TryFrom<u8> for Service {
     }
 }
 
+// The standard's name, and what it stands for.
 impl fmt::Display for Service {
     ghost output = { λ service. Some (service_words service) };
 
@@ -72,6 +74,7 @@ impl MessageKind {
     }
 }
 
+// Of the MSG bits.
 impl TryFrom<u8> for MessageKind {
     type Error = CodecFault;
 
@@ -91,6 +94,7 @@ impl TryFrom<u8> for MessageKind {
     }
 }
 
+// The standard's name, and what it stands for.
 impl fmt::Display for MessageKind {
     ghost output = { λ kind. Some (message_words kind) };
 
