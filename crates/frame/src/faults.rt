@@ -49,7 +49,8 @@ pub enum CodecFault {
     WrongFields,
 }
 
-// A fault as it is reported: layer letter and cause digit in ASCII, and the place in the frame.
+// A fault as it is reported: layer letter and cause digit, and the place in the frame.
+// Letter and digit are bytes in ASCII, since the detail of an ERROR is made of them.
 #[derive(Clone, Copy, Debug, PartialEq, Eq)]
 pub struct FaultCode {
     pub letter: u8,
