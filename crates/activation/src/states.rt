@@ -1,29 +1,33 @@
-ghost use Rattle.std.specs.Prelude.{◌≡◌};
+ghost use Rattle.std.specs.Prelude.{◌≡◌, Some};
 ghost use Rattle.activation.specs.Activation.{answer, exchange, refusal_number, sec};
+ghost use Rattle.activation.specs.Words.{refusal_words};
+
+use std::error::Error;
+use std::fmt;
 
 const SEC: u8 = 0x80;
 
 // An activation that one peer has offered with its own byte, PPi or PPt.
-#[derive(Drop)]
+#[derive(Debug, Drop, PartialEq, Eq)]
 pub struct Offered {
     own: u8,
 }
 
 // An activation in which both peers support NFC-SEC. It makes one entity, which takes it.
-#[derive(Drop)]
+#[derive(Debug, Drop, PartialEq, Eq)]
 pub struct Agreed {
     offer: Offered,
     peer: u8,
 }
 
-#[derive(Clone, Copy)]
+#[derive(Clone, Copy, Debug, PartialEq, Eq)]
 pub enum Refusal {
     // A SEC bit is ZERO: one of the peers does not support NFC-SEC.
     NotSupported = 11,
 }
 
 // A refused activation, with the offer for another try.
-#[derive(Drop)]
+#[derive(Debug, Drop, PartialEq, Eq)]
 pub struct Refused {
     pub refusal: Refusal,
     pub offer: Offered,
@@ -42,6 +46,28 @@ impl Refusal {
         self as u8
     }
 }
+
+impl fmt::Display for Refusal {
+    ghost output = { λ refusal. Some (refusal_words refusal) };
+
+    fn fmt<W: fmt::Write>(&self, f: &mut fmt::Formatter<W>) -> fmt::Result {
+        f.write_str(match self {
+            Refusal::NotSupported => "one of the peers does not support NFC-SEC",
+        })
+    }
+}
+
+impl Error for Refusal {}
+
+impl fmt::Display for Refused {
+    ghost output = { λ refused. Some (refusal_words refused.refusal) };
+
+    fn fmt<W: fmt::Write>(&self, f: &mut fmt::Formatter<W>) -> fmt::Result {
+        self.refusal.fmt(f)
+    }
+}
+
+impl Error for Refused {}
 
 impl Offered {
     // Any byte can be offered.

@@ -1,5 +1,5 @@
 -- Reader and writer undo each other.
-use Rattle.std.proofs.Common.{◌≡◌, ℕ, ◌≤◌, Bool, true, false, cond, not, ◌||◌, eqb, ltb, List, [], ◌∷◌, length, take, drop, Some, None, Ok, Err, Option, Result, sym, refl, ap, ◌∙◌, subst, arith}
+use Rattle.std.proofs.Common.{◌≡◌, ℕ, Bool, true, false, cond, not, eqb, ltb, List, [], ◌∷◌, length, take, drop, Some, None, Ok, Err, Option, Result, sym, refl, ap, ◌∙◌, subst, arith}
 use Rattle.std.proofs.lemmas.List.{take_at}
 use Rattle.std.proofs.lemmas.Bool.{eqb-true, le-ltb}
 use Rattle.std.proofs.lemmas.Bool.Decides.{nat_tests}
@@ -11,7 +11,7 @@ use Rattle.frame.specs.declared.faults.FaultCode.{FaultCode}
 use Rattle.frame.specs.declared.faults.Refusal.{Refusal}
 use Rattle.frame.specs.Numbers.{service_code, message_code, codec}
 use Rattle.frame.specs.Frames.{Said, act_req, act_res, vfy_req, vfy_res, enc, tmn, error, Parts, kind_of, fields, sep, wire}
-use Rattle.frame.specs.Reading.{rfu_bits, svc_bits, msg_bits, coded, services, messages, service_of, message_of, named, head, shaped, message, refused, with_body, with_head, reading}
+use Rattle.frame.specs.Reading.{rfu_bits, svc_bits, msg_bits, coded, services, messages, service_of, message_of, named, head, shaped, Reading, message, refused, with_body, with_head, reading}
 use Rattle.buffers.specs.Buffers.{over, length_answer, written}
 use Rattle.frame.specs.Writing.{laden, writing, numbered, ReadsBack, WritesAgain}
 
@@ -55,20 +55,19 @@ record Shaped (k : MessageKind) (rest : List ℕ) (x : Said) : Type 0 where
   bytes : fields x ≡ rest
   light : laden x ≡ false
 
--- the reader's message is y, which has the bytes that were read
-shaped_as : (k : MessageKind) (rest : List ℕ) (y x : Said) → Shaped k rest y → ◌≡◌ {A = Result Said FaultCode} (Ok y) (Ok x) → Shaped k rest x
-shaped_as k rest y x h e = let same : y ≡ x = cc in subst (Shaped k rest) same h
+shaped_as : (y x : Said) → laden y ≡ false → ◌≡◌ {A = Result Said FaultCode} (Ok y) (Ok x) → Shaped (kind_of y) (fields y) x
+shaped_as y x light e = let same : y ≡ x = cc in subst (Shaped (kind_of y) (fields y)) same (record { kind = refl; bytes = refl; light = light })
 
 shaped_is : (k : MessageKind) (rest : List ℕ) (x : Said) → shaped k rest ≡ Ok x → Shaped k rest x
 shaped_is msg.ActReq [] x e = never (cc)
-shaped_is msg.ActReq (pid ∷ p) x e = shaped_as _ _ (act_req pid p) x (record { kind = refl; bytes = refl; light = refl }) e
-shaped_is msg.ActRes p x e = shaped_as _ _ (act_res p) x (record { kind = refl; bytes = refl; light = refl }) e
-shaped_is msg.VfyReq p x e = shaped_as _ _ (vfy_req p) x (record { kind = refl; bytes = refl; light = refl }) e
-shaped_is msg.VfyRes p x e = shaped_as _ _ (vfy_res p) x (record { kind = refl; bytes = refl; light = refl }) e
-shaped_is msg.Enc p x e = shaped_as _ _ (enc p) x (record { kind = refl; bytes = refl; light = refl }) e
-shaped_is msg.Tmn [] x e = shaped_as _ _ (tmn []) x (record { kind = refl; bytes = refl; light = refl }) e
+shaped_is msg.ActReq (pid ∷ p) x e = shaped_as (act_req pid p) x refl e
+shaped_is msg.ActRes p x e = shaped_as (act_res p) x refl e
+shaped_is msg.VfyReq p x e = shaped_as (vfy_req p) x refl e
+shaped_is msg.VfyRes p x e = shaped_as (vfy_res p) x refl e
+shaped_is msg.Enc p x e = shaped_as (enc p) x refl e
+shaped_is msg.Tmn [] x e = shaped_as (tmn []) x refl e
 shaped_is msg.Tmn (y ∷ p) x e = never (cc)
-shaped_is msg.Error p x e = shaped_as _ _ (error p) x (record { kind = refl; bytes = refl; light = refl }) e
+shaped_is msg.Error p x e = shaped_as (error p) x refl e
 
 -- a frame that is read as a message is the bytes of that message, which the writer does not refuse
 record Taken (frame : List ℕ) (x : Parts) : Type 0 where
@@ -97,12 +96,12 @@ taken : (frame : List ℕ) (x : Parts) → reading frame ≡ message x → Taken
 taken [] x e = never (cc)
 taken (b ∷ rest) x e = taken_at b rest x (ltb 255 (length (b ∷ rest))) refl e
 
-pub writes_again : (frame : List ℕ) → WritesAgain frame (reading frame)
-writes_again frame x room e h =
-    let t = taken frame x e in
-    let r : ltb room 255 ≡ false = le-ltb room 255 h in
-    let s : ltb 255 (length (wire x)) ≡ false = ap (λ z. ltb 255 (length z)) t.bytes ∙ t.short in
-    rw (r, s, t.light, t.bytes)
+pub writes_again : (frame : List ℕ) (r : Reading) → r ≡ reading frame → WritesAgain frame r
+writes_again frame r is x room e h =
+    let t = taken frame x (sym is ∙ e) in
+    let enough : ltb room 255 ≡ false = le-ltb room 255 h in
+    let short : ltb 255 (length (wire x)) ≡ false = ap (λ z. ltb 255 (length z)) t.bytes ∙ t.short in
+    rw (enough, short, t.light, t.bytes)
 
 -- From a message to bytes and back.
 
@@ -146,7 +145,3 @@ reads_back x (Ok n) old new h k =
     let is : n ≡ length (wire x) = grind (arith, nat_tests) in
     let all : new ≡ over (wire x) old = grind (arith, nat_tests) in
     ap reading (ap (take n) all ∙ take_at (wire x) (drop (length (wire x)) old) n (sym is)) ∙ reads x s light
-
--- where no condition refuses it, the frame is written
-pub writing_ok : (x : Parts) (room : ℕ) → 255 ≤ room → not (ltb 254 (length (fields x.said)) || laden x.said) ≡ true → writing x room ≡ Ok (wire x)
-writing_ok x room h e = grind (arith, nat_tests)

@@ -1,55 +1,52 @@
 -- Where the first zero of a list stands.
-use Rattle.std.proofs.Common.{◌≡◌, ℕ, suc, ◌+◌, ◌<◌, ◌≤◌, Bool, true, false, cond, not, eqb, ltb, List, [], ◌∷◌, ◌++◌, length, take, sym, refl, ap, subst, inl, inr, one-add, arith, length-take}
-use Rattle.std.proofs.lemmas.Bool.{eqb-true, eqb-false, ltb-true, ltb-false}
-use Rattle.frame.specs.Frames.{Said, act_req, act_res, vfy_req, vfy_res, enc, tmn, error, fields}
-use Rattle.frame.specs.Details.{zero_at, before_zero, detail, NoZero, EndsAtZero}
+use Rattle.std.proofs.Common.{Option, Some, None, position, ◌≡◌, ◌≢◌, ◌∙◌, ℕ, ◌+◌, ◌<◌, ◌≤◌, Bool, true, false, cond, ltb, eqb, List, [], ◌∷◌, ◌++◌, length, get_or, take, drop, sym, refl, ap, subst, inl, inr, arith}
+use Rattle.std.proofs.lemmas.Bool.{ltb-true, ltb-false}
+use Rattle.std.proofs.lemmas.Bool.Decides.{nat_tests}
+use Rattle.std.proofs.lemmas.List.{take-append-drop, drop_more, get_or-take}
+use Rattle.std.proofs.lemmas.List.Sums.{prefix_len_passes, prefix_len_stops}
+use Rattle.std.proofs.lemmas.List.Folds.{length-prefix_len}
+use Rattle.std.proofs.ByRecursion.{All-from_get_or}
+use Rattle.frame.specs.Frames.{Said, error}
+use Rattle.frame.specs.Details.{non_zero, zero_at, before_zero, detail, NoZero, EndsAtZero}
 
 -- The first zero in other words.
 
-record Found (z : ℕ) (p : List ℕ) : Type 0 where
-  before : NoZero (take z p)
-  after : List ℕ
-  whole : p ≡ take z p ++ (0 ∷ after)
+not_zero : (b : ℕ) → non_zero b ≡ true → b ≢ 0
+not_zero b h e = grind (arith, nat_tests)
 
-found_at : (x : ℕ) (xs : List ℕ) → (zero_at xs < length xs → Found (zero_at xs) xs) → (t : Bool) → eqb x 0 ≡ t → cond (not t) (1 + zero_at xs) 0 < length (x ∷ xs) → Found (cond (not t) (1 + zero_at xs) 0) (x ∷ xs)
-found_at x xs later true q h = record { before = tt; after = xs; whole = ap (λ y. y ∷ xs) (eqb-true x 0 q) }
-found_at x xs later false q h =
-    let f = later (omega arith) in
-    let on : Found (suc (zero_at xs)) (x ∷ xs) = record { before = (eqb-false x 0 q, f.before); after = f.after; whole = ap (λ ys. x ∷ ys) f.whole } in
-    subst (λ n. Found n (x ∷ xs)) (sym (one-add (zero_at xs))) on
+no_zero : (p : List ℕ) → length p ≤ zero_at p → NoZero p
+no_zero p h = All-from_get_or (λ b. b ≢ 0) p 0 (λ k lt. not_zero (get_or p k 0) (prefix_len_passes non_zero p k 0 (omega arith)))
 
-found : (p : List ℕ) → zero_at p < length p → Found (zero_at p) p
-found [] h = absurd (omega arith)
-found (x ∷ xs) h = found_at x xs (found xs) (eqb x 0) refl h
+no_zero_before : (p : List ℕ) → NoZero (take (zero_at p) p)
+no_zero_before p = All-from_get_or (λ b. b ≢ 0) (take (zero_at p) p) 0 at
+  where
+    at : (k : ℕ) → k < length (take (zero_at p) p) → get_or (take (zero_at p) p) k 0 ≢ 0
+    at k h =
+        let l : k < zero_at p = omega (arith, length-prefix_len non_zero p) in
+        subst (λ b. b ≢ 0) (sym (get_or-take (zero_at p) p k 0 l)) (not_zero (get_or p k 0) (prefix_len_passes non_zero p k 0 l))
 
-missing_at : (x : ℕ) (xs : List ℕ) → (length xs ≤ zero_at xs → NoZero xs) → (t : Bool) → eqb x 0 ≡ t → length (x ∷ xs) ≤ cond (not t) (1 + zero_at xs) 0 → NoZero (x ∷ xs)
-missing_at x xs later true q h = absurd (omega arith)
-missing_at x xs later false q h = (eqb-false x 0 q, later (omega arith))
+zero_here : (p : List ℕ) → zero_at p < length p → get_or p (zero_at p) 0 ≡ 0
+zero_here p h = let e = prefix_len_stops non_zero p 0 h in grind (arith, nat_tests)
 
-missing : (p : List ℕ) → length p ≤ zero_at p → NoZero p
-missing [] h = tt
-missing (x ∷ xs) h = missing_at x xs (missing xs) (eqb x 0) refl h
+whole : (p : List ℕ) → zero_at p < length p → p ≡ take (zero_at p) p ++ (0 ∷ drop (zero_at p + 1) p)
+whole p h =
+    let z = zero_at p in
+    sym (take-append-drop z p) ∙ ap (λ y. take z p ++ y) (drop_more p z 0 h ∙ ap (λ b. b ∷ drop (z + 1) p) (zero_here p h))
 
 ends_at : (p : List ℕ) (t : Bool) → ltb (zero_at p) (length p) ≡ t → EndsAtZero p (cond t (take (zero_at p) p) [])
-ends_at p true q = let f = found p (ltb-true (zero_at p) (length p) q) in inl (f.before, (f.after, f.whole))
-ends_at p false q = inr (missing p (ltb-false (zero_at p) (length p) q), refl)
-
-pub ends_at_zero : (p : List ℕ) → EndsAtZero p (before_zero p)
-ends_at_zero p = ends_at p (ltb (zero_at p) (length p)) refl
-
-part_at : (p : List ℕ) (t : Bool) → ltb (zero_at p) (length p) ≡ t → cond t (take (zero_at p) p) [] ≡ take (length (cond t (take (zero_at p) p) [])) p
-part_at p true q = let l : length (take (zero_at p) p) ≡ zero_at p = simp length-take (omega (arith, ltb-true (zero_at p) (length p) q)) in ap (λ n. take n p) (sym l)
-part_at p false q = refl
-
--- the detail is the front of what follows SEP
-pub detail_part : (x : Said) → detail x ≡ take (length (detail x)) (fields x)
-detail_part (act_req pid p) = refl
-detail_part (act_res p) = refl
-detail_part (vfy_req p) = refl
-detail_part (vfy_res p) = refl
-detail_part (enc p) = refl
-detail_part (tmn p) = refl
-detail_part (error p) = part_at p (ltb (zero_at p) (length p)) refl
+ends_at p true q = inl (no_zero_before p, (drop (zero_at p + 1) p, whole p (ltb-true (zero_at p) (length p) q)))
+ends_at p false q = inr (no_zero p (ltb-false (zero_at p) (length p) q), refl)
 
 pub detail_ends : (x : Said) (p : List ℕ) → x ≡ error p → EndsAtZero p (detail x)
-detail_ends x p e = subst (λ y. EndsAtZero p (detail y)) (sym e) (ends_at_zero p)
+detail_ends x p e = subst (λ y. EndsAtZero p (detail y)) (sym e) (ends_at p (ltb (zero_at p) (length p)) refl)
+
+-- what stands before a place that a search found
+abbrev pub before : List ℕ → Option ℕ → List ℕ
+before p (Some n) = take n p
+before p None = []
+
+pub before_zero_found : (p : List ℕ) (r : Option ℕ) → r ≡ position (λ b. eqb b 0) p → before_zero p ≡ before p r
+before_zero_found p r e =
+    let z = zero_at p in
+    let s = elim (ltb z (length p)) as (λ t. cond t (take z p) [] ≡ before p (cond t (Some z) None)) [ true ↦ refl | false ↦ refl ] in
+    s ∙ ap (before p) (sym e)

@@ -3,3 +3,4 @@ pub mod Frames
 pub mod Numbers
 pub mod Reading
 pub mod Writing
+pub mod Words

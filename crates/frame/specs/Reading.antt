@@ -1,5 +1,6 @@
 -- What the reader answers to any bytes.
 use Rattle.std.specs.Prelude.{ℕ, ◌/◌, ◌%◌, cond, not, List, [], ◌∷◌, length, Some, None, Ok, Err, Option, Result, ◌==◌, nat_lt}
+use Rattle.std.specs.Option.{ok_or}
 use Rattle.frame.specs.declared.types.Service.{Service}
 use Rattle.frame.specs.declared.types.Service.TheVariants.{Sse, Sch}
 use Rattle.frame.specs.declared.types.MessageKind.{MessageKind}
@@ -7,6 +8,7 @@ use Rattle.frame.specs.declared.types.MessageKind.TheVariants as msg
 use Rattle.frame.specs.declared.types.Body.{Body}
 use Rattle.frame.specs.declared.types.Message.{Message}
 use Rattle.frame.specs.declared.faults.CodecFault.{CodecFault}
+use Rattle.frame.specs.declared.faults.CodecFault.TheVariants.{NoService, NoMessage}
 use Rattle.frame.specs.declared.faults.ReadError.{ReadError}
 use Rattle.frame.specs.declared.faults.ReadError.TheVariants.{Refused, Fault}
 use Rattle.frame.specs.declared.faults.FaultCode.{FaultCode}
@@ -40,6 +42,13 @@ service_of n = coded service_code services n
 
 abbrev pub message_of : ℕ → Option MessageKind
 message_of n = coded message_code messages n
+
+-- a code alone: C2 where it is no service's, C3 where it is no message's
+abbrev pub service_read : ℕ → Result Service CodecFault
+service_read n = ok_or (service_of n) NoService
+
+abbrev pub message_read : ℕ → Result MessageKind CodecFault
+message_read n = ok_or (message_of n) NoMessage
 
 -- SEP: C1 where an RFU bit is ONE, C2 where the service is 10 or 11, C3 where the message is another
 abbrev pub named : Option Service → Option MessageKind → Result (Service × MessageKind) FaultCode

@@ -1,36 +1,30 @@
-ghost use Rattle.std.specs.Prelude.{◌≡◌, ℕ, List, length, take, drop};
+ghost use Rattle.std.specs.Prelude.{◌≡◌, ◌==◌, position, ℕ, List, length, take, drop};
 ghost use Rattle.frame.specs.Frames.{parts, said_by, wire, error};
-ghost use Rattle.frame.specs.Details.{zero_at, before_zero, detail as detail_of, EndsAtZero};
+ghost use Rattle.frame.specs.Details.{before_zero, detail as detail_of, EndsAtZero};
 
 use super::types::{Body, Message};
 
 // The detail of an ERROR: a part of the frame, with its place there.
-#[derive(Clone, Copy)]
+#[derive(Clone, Copy, Debug, PartialEq, Eq)]
 pub struct Detail<'a> {
     pub place: usize,
     pub bytes: &'a [u8],
 }
 
-// How many bytes stand before the first zero.
-fn zero_at(payload: &[u8]) -> usize
-    ensures { result ≡ zero_at payload.now }
+fn first_zero(payload: &[u8]) -> Option<usize>
+    ensures { result ≡ position (λ b. b == 0) payload.now }
 {
-    for (i, b) in payload.iter().enumerate() {
-        if *b == 0 {
-            return i;
-        }
-    }
-    payload.len()
+    payload.iter().position(|b| *b == 0)
 }
 
+// The bytes before the first zero, and none where there is no zero.
+#[tactic(auto, using(crate::proofs::Zeros::before_zero_found))]
 fn before_zero(payload: &[u8]) -> &[u8]
     ensures { result.now ≡ before_zero payload.now }
 {
-    let end = zero_at(payload);
-    if end < payload.len() {
-        &payload[0..end]
-    } else {
-        &payload[0..0]
+    match first_zero(payload) {
+        Some(end) => &payload[..end],
+        None => &[],
     }
 }
 
@@ -39,7 +33,7 @@ fn detail_bytes<'a>(body: &Body<'a>) -> &'a [u8]
 {
     match body {
         Body::Error(payload) => before_zero(payload),
-        _ => &body.payload()[0..0],
+        _ => &[],
     }
 }
 

@@ -1,9 +1,13 @@
-ghost use Rattle.std.specs.Prelude.{◌≡◌};
+ghost use Rattle.std.specs.Prelude.{◌≡◌, Some};
 ghost use Rattle.frame.specs.Numbers.{refusal_number, fault_code};
+ghost use Rattle.frame.specs.Words.{refusal_words, code_words, fault_words, error_words};
 ghost use Rattle.frame.specs.declared.faults.ReadError.TheVariants.{Refused, Fault};
 
+use std::error::Error;
+use std::fmt;
+
 // Why a call is refused.
-#[derive(Clone, Copy)]
+#[derive(Clone, Copy, Debug, PartialEq, Eq)]
 pub enum Refusal {
     // The buffer has fewer than 255 bytes.
     ReplyBuffer = 1,
@@ -19,8 +23,21 @@ impl Refusal {
     }
 }
 
+impl fmt::Display for Refusal {
+    ghost output = { λ refusal. Some (refusal_words refusal) };
+
+    fn fmt<W: fmt::Write>(&self, f: &mut fmt::Formatter<W>) -> fmt::Result {
+        f.write_str(match self {
+            Refusal::ReplyBuffer => "the buffer has fewer than 255 bytes",
+            Refusal::FrameLength => "a frame has 1 to 255 bytes",
+        })
+    }
+}
+
+impl Error for Refusal {}
+
 // What is wrong with the form of a frame.
-#[derive(Clone, Copy)]
+#[derive(Clone, Copy, Debug, PartialEq, Eq)]
 pub enum CodecFault {
     // C1: an RFU bit is ONE.
     RfuBit,
@@ -32,12 +49,24 @@ pub enum CodecFault {
     WrongFields,
 }
 
-// A fault as it is reported: layer letter and cause digit in ASCII, and the place in the frame.
-#[derive(Clone, Copy)]
+// A fault as it is reported: layer letter and cause digit, and the place in the frame.
+// Letter and digit are bytes in ASCII, since the detail of an ERROR is made of them.
+#[derive(Clone, Copy, Debug, PartialEq, Eq)]
 pub struct FaultCode {
     pub letter: u8,
     pub digit: u8,
     pub place: usize,
+}
+
+// The fault's name, as C1; its place is not part of it.
+impl fmt::Display for FaultCode {
+    ghost output = { λ code. Some (code_words code) };
+
+    fn fmt<W: fmt::Write>(&self, f: &mut fmt::Formatter<W>) -> fmt::Result {
+        let letter = self.letter as char;
+        let digit = self.digit as char;
+        write!(f, "{letter}{digit}")
+    }
 }
 
 impl CodecFault {
@@ -58,25 +87,54 @@ impl CodecFault {
     }
 }
 
+impl fmt::Display for CodecFault {
+    ghost output = { λ fault. Some (fault_words fault) };
+
+    fn fmt<W: fmt::Write>(&self, f: &mut fmt::Formatter<W>) -> fmt::Result {
+        f.write_str(match self {
+            CodecFault::RfuBit => "a bit reserved for future use (8 or 7 of SEP) is ONE",
+            CodecFault::NoService =>
+                "the service bits (6 and 5 of SEP) are neither 00 SSE nor 01 SCH",
+            CodecFault::NoMessage => "the message bits (4 to 1 of SEP) are none of the standard's",
+            CodecFault::WrongFields => "an ACT_REQ needs its PID, a TMN has nothing after SEP",
+        })
+    }
+}
+
+impl Error for CodecFault {}
+
 // Why bytes are not taken as a message.
-#[derive(Clone, Copy)]
+#[derive(Clone, Copy, Debug, PartialEq, Eq)]
 pub enum ReadError {
     Refused(Refusal),
     Fault(CodecFault),
 }
 
+impl fmt::Display for ReadError {
+    ghost output = { λ error. Some (error_words error) };
+
+    fn fmt<W: fmt::Write>(&self, f: &mut fmt::Formatter<W>) -> fmt::Result {
+        match self {
+            ReadError::Refused(refusal) => refusal.fmt(f),
+            ReadError::Fault(fault) => fault.fmt(f),
+        }
+    }
+}
+
+impl Error for ReadError {}
+
 impl From<Refusal> for ReadError {
     ghost from_gives = { λ x r. r ≡ Refused x };
 
-    fn from(refusal: Refusal) -> ReadError {
-        ReadError::Refused(refusal)
+    fn from(refusal: Refusal) -> Self {
+        Self::Refused(refusal)
     }
 }
 
 impl From<CodecFault> for ReadError {
     ghost from_gives = { λ x r. r ≡ Fault x };
 
-    fn from(fault: CodecFault) -> ReadError {
-        ReadError::Fault(fault)
+    fn from(fault: CodecFault) -> Self {
+        Self::Fault(fault)
     }
 }

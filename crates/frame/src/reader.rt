@@ -1,34 +1,9 @@
 ghost use Rattle.std.specs.Prelude.{◌≡◌};
-ghost use Rattle.frame.specs.Reading.{reading, read as read_as, with_head, head, shaped, by_code, body_read, service_of, message_of, svc_bits, msg_bits};
+ghost use Rattle.frame.specs.Reading.{reading, read as read_as, with_head, head, shaped, by_code, body_read};
 ghost use Rattle.frame.specs.Writing.{WritesAgain};
 
 use super::faults::{CodecFault, ReadError, Refusal};
 use super::types::{Body, MAX_FRAME, Message, MessageKind, Service};
-
-fn service_of(sep: u8) -> Option<Service>
-    ensures { result ≡ service_of (svc_bits sep) }
-{
-    match (sep >> 4) % 4 {
-        0 => Some(Service::Sse),
-        1 => Some(Service::Sch),
-        _ => None,
-    }
-}
-
-fn message_of(sep: u8) -> Option<MessageKind>
-    ensures { result ≡ message_of (msg_bits sep) }
-{
-    match sep % 16 {
-        0b0000 => Some(MessageKind::ActReq),
-        0b0001 => Some(MessageKind::ActRes),
-        0b0010 => Some(MessageKind::VfyReq),
-        0b0011 => Some(MessageKind::VfyRes),
-        0b0100 => Some(MessageKind::Enc),
-        0b0110 => Some(MessageKind::Tmn),
-        0b1111 => Some(MessageKind::Error),
-        _ => None,
-    }
-}
 
 fn read_sep(sep: u8) -> Result<(Service, MessageKind), CodecFault>
     ensures { by_code result ≡ head sep }
@@ -36,12 +11,8 @@ fn read_sep(sep: u8) -> Result<(Service, MessageKind), CodecFault>
     if sep >> 6 != 0 {
         return Err(CodecFault::RfuBit);
     }
-    let Some(service) = service_of(sep) else {
-        return Err(CodecFault::NoService);
-    };
-    let Some(kind) = message_of(sep) else {
-        return Err(CodecFault::NoMessage);
-    };
+    let service = Service::try_from((sep >> 4) % 4)?;
+    let kind = MessageKind::try_from(sep % 16)?;
     Ok((service, kind))
 }
 

@@ -1,11 +1,16 @@
-ghost use Rattle.std.specs.Prelude.{◌≡◌, ◌<◌};
+ghost use Rattle.std.specs.Prelude.{◌≡◌, Some};
 ghost use Rattle.frame.specs.Numbers.{service_code, message_code};
 ghost use Rattle.frame.specs.Frames.{said_by, kind_of, payload_of};
+ghost use Rattle.frame.specs.Reading.{service_read, message_read};
+ghost use Rattle.frame.specs.Words.{service_words, message_words};
+
+use super::faults::CodecFault;
+use std::fmt;
 
 // The longest frame, and the least buffer that the writer takes.
 pub const MAX_FRAME: usize = 255;
 
-#[derive(Clone, Copy)]
+#[derive(Clone, Copy, Debug, PartialEq, Eq)]
 pub enum Service {
     // The shared secret service.
     Sse = 0,
@@ -22,7 +27,34 @@ impl Service {
     }
 }
 
-#[derive(Clone, Copy)]
+// Of the SVC bits.
+impl TryFrom<u8> for Service {
+    type Error = CodecFault;
+
+    ghost try_from_gives = { λ code r. r ≡ service_read code };
+
+    fn try_from(code: u8) -> Result<Self, CodecFault> {
+        match code {
+            0 => Ok(Service::Sse),
+            1 => Ok(Service::Sch),
+            _ => Err(CodecFault::NoService),
+        }
+    }
+}
+
+// The standard's name, and what it stands for.
+impl fmt::Display for Service {
+    ghost output = { λ service. Some (service_words service) };
+
+    fn fmt<W: fmt::Write>(&self, f: &mut fmt::Formatter<W>) -> fmt::Result {
+        f.write_str(match self {
+            Service::Sse => "SSE, the shared secret service",
+            Service::Sch => "SCH, the secure channel service",
+        })
+    }
+}
+
+#[derive(Clone, Copy, Debug, PartialEq, Eq)]
 pub enum MessageKind {
     ActReq = 0b0000,
     ActRes = 0b0001,
@@ -42,8 +74,45 @@ impl MessageKind {
     }
 }
 
+// Of the MSG bits.
+impl TryFrom<u8> for MessageKind {
+    type Error = CodecFault;
+
+    ghost try_from_gives = { λ code r. r ≡ message_read code };
+
+    fn try_from(code: u8) -> Result<Self, CodecFault> {
+        match code {
+            0b0000 => Ok(MessageKind::ActReq),
+            0b0001 => Ok(MessageKind::ActRes),
+            0b0010 => Ok(MessageKind::VfyReq),
+            0b0011 => Ok(MessageKind::VfyRes),
+            0b0100 => Ok(MessageKind::Enc),
+            0b0110 => Ok(MessageKind::Tmn),
+            0b1111 => Ok(MessageKind::Error),
+            _ => Err(CodecFault::NoMessage),
+        }
+    }
+}
+
+// The standard's name, and what it stands for.
+impl fmt::Display for MessageKind {
+    ghost output = { λ kind. Some (message_words kind) };
+
+    fn fmt<W: fmt::Write>(&self, f: &mut fmt::Formatter<W>) -> fmt::Result {
+        f.write_str(match self {
+            MessageKind::ActReq => "ACT_REQ, activation request",
+            MessageKind::ActRes => "ACT_RES, activation response",
+            MessageKind::VfyReq => "VFY_REQ, verification request",
+            MessageKind::VfyRes => "VFY_RES, verification response",
+            MessageKind::Enc => "ENC, encrypted packet",
+            MessageKind::Tmn => "TMN, terminate",
+            MessageKind::Error => "ERROR, error",
+        })
+    }
+}
+
 // What follows SEP. A payload is lent by whoever has the frame.
-#[derive(Clone, Copy)]
+#[derive(Clone, Copy, Debug, PartialEq, Eq)]
 pub enum Body<'a> {
     // PID and payload.
     ActReq(u8, &'a [u8]),
@@ -56,7 +125,7 @@ pub enum Body<'a> {
     Error(&'a [u8]),
 }
 
-#[derive(Clone, Copy)]
+#[derive(Clone, Copy, Debug, PartialEq, Eq)]
 pub struct Message<'a> {
     pub service: Service,
     pub body: Body<'a>,

@@ -1,4 +1,4 @@
-ghost use Rattle.std.specs.Prelude.{◌≡◌, ◌+◌, ◌<◌, ◌≤◌, not, ◌||◌, ◌∷◌, length, nat_lt};
+ghost use Rattle.std.specs.Prelude.{◌≡◌, ◌+◌, ◌<◌, ◌≤◌, not, ◌||◌, ◌++◌, length, nat_lt};
 ghost use Rattle.frame.specs.Frames.{parts, sep as sep_of, said_by, fields, wire};
 ghost use Rattle.buffers.specs.Buffers.{over, length_answer, written};
 ghost use Rattle.frame.specs.Writing.{writing, numbered, laden, ReadsBack};
@@ -17,32 +17,22 @@ fn has_frame(body: &Body<'_>) -> bool
     ensures { result ≡ not (nat_lt 254 (length (fields (said_by body.now))) || laden (said_by body.now)) }
 {
     match body {
-        Body::ActReq(_, payload) => payload.len() <= 253,
+        Body::ActReq(_, payload) => payload.len() + 2 <= MAX_FRAME,
         Body::Tmn(payload) => payload.is_empty(),
-        _ => body.payload().len() <= 254,
+        _ => body.payload().len() + 1 <= MAX_FRAME,
     }
 }
 
-fn put_payload(sep: u8, payload: &[u8], out: &mut [u8]) -> usize
-    requires { length payload.now < length out.old }
-    ensures answer { result ≡ length (sep ∷ payload.now) }
-    ensures bytes { out.new ≡ over (sep ∷ payload.now) out.old }
+// Writes `head` and then the payload to the front of `out`, and answers their length.
+fn put_frame(head: &[u8], payload: &[u8], out: &mut [u8]) -> usize
+    requires { length head.now + length payload.now ≤ length out.old }
+    ensures answer { result ≡ length (head.now ++ payload.now) }
+    ensures bytes { out.new ≡ over (head.now ++ payload.now) out.old }
 {
-    let end = payload.len() + 1;
-    out[0] = sep;
-    out[1..end].copy_from_slice(payload);
-    end
-}
-
-fn put_request(sep: u8, pid: u8, payload: &[u8], out: &mut [u8]) -> usize
-    requires { length payload.now + 1 < length out.old }
-    ensures answer { result ≡ length (sep ∷ pid ∷ payload.now) }
-    ensures bytes { out.new ≡ over (sep ∷ pid ∷ payload.now) out.old }
-{
-    let end = payload.len() + 2;
-    out[0] = sep;
-    out[1] = pid;
-    out[2..end].copy_from_slice(payload);
+    let start = head.len();
+    let end = start + payload.len();
+    out[..start].copy_from_slice(head);
+    out[start..end].copy_from_slice(payload);
     end
 }
 
@@ -53,8 +43,8 @@ fn put(message: &Message<'_>, out: &mut [u8]) -> usize
 {
     let sep = sep(message.service, message.body.kind());
     match message.body {
-        Body::ActReq(pid, payload) => put_request(sep, pid, payload, out),
-        body => put_payload(sep, body.payload(), out),
+        Body::ActReq(pid, payload) => put_frame(&[sep, pid], payload, out),
+        body => put_frame(&[sep], body.payload(), out),
     }
 }
 

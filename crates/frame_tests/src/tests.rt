@@ -1,169 +1,197 @@
-use frame::{Body, MAX_FRAME, Message, ReadError, Service};
+ghost use Rattle.std.specs.Prelude.{◌≤◌};
 
-// What is read of a frame, in numbers.
-#[derive(Clone, Copy, PartialEq, Eq, Debug)]
-enum Seen {
-    // Service and message codes, PID (0 but in ACT_REQ), payload length.
-    Message(u8, u8, u8, usize),
-    // Cause digit and place of a codec fault.
-    Fault(char, usize),
-    Refused(u8),
-}
+use frame::Service::{Sch, Sse};
+use frame::{
+    Body, CodecFault, Detail, FaultCode, MAX_FRAME, Message, MessageKind, ReadError, Refusal,
+    Service,
+};
 
-fn pid_of(body: &Body<'_>) -> u8 {
-    match body {
-        Body::ActReq(pid, _) => *pid,
-        _ => 0,
-    }
-}
+const TOO_LONG: Result<Message<'static>, ReadError> = Err(ReadError::Refused(Refusal::FrameLength));
 
-fn reading(frame: &[u8]) -> Seen {
-    match frame::read(frame) {
-        Ok(m) => {
-            let length = m.body.payload().len();
-            Seen::Message(
-                m.service.code(),
-                m.body.kind().code(),
-                pid_of(&m.body),
-                length,
-            )
-        }
-        Err(ReadError::Fault(fault)) => {
-            let code = fault.code();
-            Seen::Fault(code.digit as char, code.place)
-        }
-        Err(ReadError::Refused(refusal)) => Seen::Refused(refusal.number()),
-    }
-}
-
-// The first three bytes and the length of what is written, or the number of the refusal.
-fn written(service: Service, body: Body<'_>, room: usize) -> Result<(u8, u8, u8, usize), u8> {
-    let mut out = [0xEE; 300];
-    let room = room.min(300);
-    match frame::write(&Message { service, body }, &mut out[0..room]) {
-        Ok(length) => Ok((out[0], out[1], out[2], length)),
-        Err(refusal) => Err(refusal.number()),
-    }
+fn said(service: Service, body: Body<'_>) -> Result<Message<'_>, ReadError> {
+    Ok(Message { service, body })
 }
 
 #[test]
 fn messages(rt: HostRuntime) {
-    assert_eq!(rt; reading(&[0x10, 0xF0, 1, 2]), Seen::Message(1, 0, 0xF0, 2));
-    assert_eq!(rt; reading(&[0x00, 0xF1]), Seen::Message(0, 0, 0xF1, 0));
-    assert_eq!(rt; reading(&[0x11, 5, 6, 7]), Seen::Message(1, 1, 0, 3));
-    assert_eq!(rt; reading(&[0x02, 9]), Seen::Message(0, 2, 0, 1));
-    assert_eq!(rt; reading(&[0x13]), Seen::Message(1, 3, 0, 0));
-    assert_eq!(rt; reading(&[0x14, 1]), Seen::Message(1, 4, 0, 1));
-    assert_eq!(rt; reading(&[0x06]), Seen::Message(0, 6, 0, 0));
-    assert_eq!(rt; reading(&[0x1F, 0x4D, 0x31, 0]), Seen::Message(1, 15, 0, 3));
+    assert_eq!(rt;
+        frame::read(&[0x10, 0xF0, 1, 2]),
+        said(Sch, Body::ActReq(0xF0, &[1, 2]))
+    );
+    assert_eq!(rt;
+        frame::read(&[0x00, 0xF1]),
+        said(Sse, Body::ActReq(0xF1, &[]))
+    );
+    assert_eq!(rt;
+        frame::read(&[0x11, 5, 6, 7]),
+        said(Sch, Body::ActRes(&[5, 6, 7]))
+    );
+    assert_eq!(rt; frame::read(&[0x02, 9]), said(Sse, Body::VfyReq(&[9])));
+    assert_eq!(rt; frame::read(&[0x13]), said(Sch, Body::VfyRes(&[])));
+    assert_eq!(rt; frame::read(&[0x14, 1]), said(Sch, Body::Enc(&[1])));
+    assert_eq!(rt; frame::read(&[0x06]), said(Sse, Body::Tmn(&[])));
+    assert_eq!(rt;
+        frame::read(&[0x1F, 0x4D, 0x31, 0]),
+        said(Sch, Body::Error(b"M1\0"))
+    );
 }
 
 #[test]
 fn faults(rt: HostRuntime) {
-    assert_eq!(rt; reading(&[0x40, 1]), Seen::Fault('1', 0));
-    assert_eq!(rt; reading(&[0x94]), Seen::Fault('1', 0), "the other RFU bit");
-    assert_eq!(rt;
-        reading(&[0x65]),
-        Seen::Fault('1', 0),
-        "C1 before C2 and C3"
-    );
-    assert_eq!(rt; reading(&[0x20]), Seen::Fault('2', 0));
-    assert_eq!(rt;
-        reading(&[0x3F]),
-        Seen::Fault('2', 0),
-        "an ERROR of no service"
-    );
-    assert_eq!(rt; reading(&[0x25]), Seen::Fault('2', 0), "C2 before C3");
-    assert_eq!(rt; reading(&[0x15]), Seen::Fault('3', 0));
-    assert_eq!(rt; reading(&[0x0E, 1]), Seen::Fault('3', 0));
-    assert_eq!(rt; reading(&[0x10]), Seen::Fault('4', 1), "no PID");
-    assert_eq!(rt;
-        reading(&[0x16, 0]),
-        Seen::Fault('4', 1),
-        "TMN with payload"
-    );
+    let frames: [(&[u8], CodecFault); 10] = [
+        (&[0x40, 1], CodecFault::RfuBit),
+        // the other RFU bit
+        (&[0x94], CodecFault::RfuBit),
+        // C1 before C2 and C3
+        (&[0x65], CodecFault::RfuBit),
+        (&[0x20], CodecFault::NoService),
+        // an ERROR of no service
+        (&[0x3F], CodecFault::NoService),
+        // C2 before C3
+        (&[0x25], CodecFault::NoService),
+        (&[0x15], CodecFault::NoMessage),
+        (&[0x0E, 1], CodecFault::NoMessage),
+        // no PID
+        (&[0x10], CodecFault::WrongFields),
+        // TMN with payload
+        (&[0x16, 0], CodecFault::WrongFields),
+    ];
+    for (frame, fault) in frames {
+        assert_eq!(rt;
+            frame::read(frame),
+            Err(ReadError::Fault(fault)),
+            "{frame:?}"
+        );
+    }
 }
 
 #[test]
 fn lengths(rt: HostRuntime) {
     let long = [0x14; 256];
-    assert_eq!(rt; reading(&[]), Seen::Refused(3));
-    assert_eq!(rt; reading(&long[0..255]), Seen::Message(1, 4, 0, 254));
-    assert_eq!(rt; reading(&long), Seen::Refused(3));
+    assert_eq!(rt; frame::read(&[]), TOO_LONG);
     assert_eq!(rt;
-        reading(&[0xFF; 256]),
-        Seen::Refused(3),
+        frame::read(&long[..255]),
+        said(Sch, Body::Enc(&long[1..255]))
+    );
+    assert_eq!(rt; frame::read(&long), TOO_LONG);
+    assert_eq!(rt;
+        frame::read(&[0xFF; 256]),
+        TOO_LONG,
         "the length before the form"
     );
 }
 
-fn packet_of(length: usize) -> Result<(u8, u8, u8, usize), u8> {
-    let long = [7; 255];
-    let payload = &long[0..length.min(255)];
-    written(Service::Sch, Body::Enc(payload), 300)
-}
-
-fn request_of(length: usize) -> Result<(u8, u8, u8, usize), u8> {
-    let long = [7; 255];
-    let payload = &long[0..length.min(255)];
-    written(Service::Sch, Body::ActReq(1, payload), MAX_FRAME)
+// The first three bytes and the length of what is written.
+fn written(service: Service, body: Body<'_>, room: usize) -> Result<([u8; 3], usize), Refusal>
+    requires { room ≤ 300 }
+{
+    let mut out = [0xEE; 300];
+    let length = frame::write(&Message { service, body }, &mut out[..room])?;
+    Ok(([out[0], out[1], out[2]], length))
 }
 
 #[test]
 fn writes(rt: HostRuntime) {
-    let sch = Service::Sch;
     assert_eq!(rt;
-        written(sch, Body::ActReq(0xF0, &[9]), 255),
-        Ok((0x10, 0xF0, 9, 3))
+        written(Sch, Body::ActReq(0xF0, &[9]), 255),
+        Ok(([0x10, 0xF0, 9], 3))
     );
     assert_eq!(rt;
-        written(Service::Sse, Body::Error(b"M1"), 255),
-        Ok((0x0F, 0x4D, 0x31, 3))
+        written(Sse, Body::Error(b"M1"), 255),
+        Ok(([0x0F, 0x4D, 0x31], 3))
     );
     assert_eq!(rt;
-        written(sch, Body::Tmn(&[]), 255),
-        Ok((0x16, 0xEE, 0xEE, 1)),
+        written(Sch, Body::Tmn(&[]), 255),
+        Ok(([0x16, 0xEE, 0xEE], 1)),
         "the rest stays"
     );
-    assert_eq!(rt; written(sch, Body::Tmn(&[0]), 255), Err(3));
     assert_eq!(rt;
-        written(sch, Body::Tmn(&[0]), 254),
-        Err(1),
+        written(Sch, Body::Tmn(&[0]), 255),
+        Err(Refusal::FrameLength)
+    );
+    assert_eq!(rt;
+        written(Sch, Body::Tmn(&[0]), 254),
+        Err(Refusal::ReplyBuffer),
         "the buffer before the length"
     );
-    assert_eq!(rt; packet_of(254), Ok((0x14, 7, 7, MAX_FRAME)));
-    assert_eq!(rt; packet_of(255), Err(3));
-    assert_eq!(rt; request_of(253), Ok((0x10, 1, 7, MAX_FRAME)));
+}
+
+#[test]
+fn longest(rt: HostRuntime) {
+    let long = [7; 255];
     assert_eq!(rt;
-        request_of(254),
-        Err(3),
+        written(Sch, Body::Enc(&long[..254]), 300),
+        Ok(([0x14, 7, 7], MAX_FRAME))
+    );
+    assert_eq!(rt;
+        written(Sch, Body::Enc(&long), 300),
+        Err(Refusal::FrameLength)
+    );
+    assert_eq!(rt;
+        written(Sch, Body::ActReq(1, &long[..253]), MAX_FRAME),
+        Ok(([0x10, 1, 7], MAX_FRAME))
+    );
+    assert_eq!(rt;
+        written(Sch, Body::ActReq(1, &long[..254]), MAX_FRAME),
+        Err(Refusal::FrameLength),
         "SEP, PID and 254 bytes are one too many"
     );
 }
 
-fn detail_of(frame: &[u8]) -> (usize, usize) {
-    match frame::read(frame) {
-        Ok(m) => {
-            let detail = m.detail();
-            (detail.place, detail.bytes.len())
-        }
-        Err(_) => (0, 0),
+#[test]
+fn details(rt: HostRuntime) {
+    let frames: [(&[u8], &[u8]); 5] = [
+        (&[0x1F, 0x4D, 0x31, 0], b"M1"),
+        // no zero, no detail
+        (&[0x1F, 0x4D, 0x31], b""),
+        (&[0x0F, 0, 0x31, 0], b""),
+        // up to the first zero
+        (&[0x0F, 1, 2, 3, 0, 4, 0], &[1, 2, 3]),
+        // not an ERROR
+        (&[0x14, 1, 2, 0], b""),
+    ];
+    for (frame, bytes) in frames {
+        let detail = frame::read(frame).map(|m| m.detail());
+        assert_eq!(rt; detail, Ok(Detail { place: 1, bytes }), "{frame:?}");
     }
 }
 
 #[test]
-fn details(rt: HostRuntime) {
-    assert_eq!(rt; detail_of(&[0x1F, 0x4D, 0x31, 0]), (1, 2));
-    assert_eq!(rt;
-        detail_of(&[0x1F, 0x4D, 0x31]),
-        (1, 0),
-        "no zero, no detail"
-    );
-    assert_eq!(rt; detail_of(&[0x0F, 0, 0x31, 0]), (1, 0));
-    assert_eq!(rt;
-        detail_of(&[0x0F, 1, 2, 3, 0, 4, 0]),
-        (1, 3),
-        "up to the first zero"
-    );
-    assert_eq!(rt; detail_of(&[0x14, 1, 2, 0]), (1, 0), "not an ERROR");
+fn codes(rt: HostRuntime) {
+    assert_eq!(rt; [Sse.code(), Sch.code()], [0, 1]);
+    let kinds = [
+        (MessageKind::ActReq, 0),
+        (MessageKind::ActRes, 1),
+        (MessageKind::VfyReq, 2),
+        (MessageKind::VfyRes, 3),
+        (MessageKind::Enc, 4),
+        (MessageKind::Tmn, 6),
+        (MessageKind::Error, 15),
+    ];
+    for (kind, code) in kinds {
+        assert_eq!(rt; kind.code(), code, "{kind}");
+    }
+}
+
+#[test]
+fn numbers(rt: HostRuntime) {
+    let faults = [
+        (CodecFault::RfuBit, b'1', 0),
+        (CodecFault::NoService, b'2', 0),
+        (CodecFault::NoMessage, b'3', 0),
+        (CodecFault::WrongFields, b'4', 1),
+    ];
+    for (fault, digit, place) in faults {
+        assert_eq!(rt;
+            fault.code(),
+            FaultCode {
+                letter: b'C',
+                digit,
+                place
+            },
+            "{fault}"
+        );
+    }
+    assert_eq!(rt; Refusal::ReplyBuffer.number(), 1);
+    assert_eq!(rt; Refusal::FrameLength.number(), 3);
 }

@@ -1,7 +1,9 @@
 -- Text that was written is read as the same bytes.
-use Rattle.std.proofs.Common.{◌≡◌, ℕ, ◌+◌, ◌*◌, ◌/◌, ◌%◌, ◌<◌, false, List, [], ◌∷◌, ◌++◌, length, get_or, take, Some, Ok, sym, refl, ap, ◌∙◌, append_assoc, arith}
+use Rattle.std.proofs.Common.{◌≡◌, ℕ, ◌+◌, ◌*◌, ◌/◌, ◌%◌, ◌<◌, false, List, [], ◌∷◌, ◌++◌, ◌-◌, ◌^◌, true, length, get_or, take, Some, Ok, refl, ap, ◌∙◌, arith}
 use Rattle.std.proofs.lemmas.List.{take_more}
 use Rattle.std.proofs.lemmas.Bool.Decides.{nat_tests}
+use Rattle.std.proofs.lemmas.Fmt.{hex_byte}
+use Rattle.std.specs.Fmt.{padded_integral, format_spec, digits}
 use Rattle.std.specs.List.{AllByRecursion}
 use Rattle.hex_text.specs.Hex.{digit, spelled, value, blank, decoded_from}
 
@@ -24,12 +26,10 @@ spelled-append : (xs ys : List ℕ) → spelled (xs ++ ys) ≡ spelled xs ++ spe
 spelled-append [] ys = refl
 spelled-append (x ∷ xs) ys = ap (λ z. digit (x / 16) ∷ digit (x % 16) ∷ z) (spelled-append xs ys)
 
--- one byte more
-pub spelled_more : (bs : List ℕ) (i : ℕ) → i < length bs → spelled (take (i + 1) bs) ≡ (spelled (take i bs) ++ (digit (get_or bs i 0 / 16) ∷ [])) ++ (digit (get_or bs i 0 % 16) ∷ [])
-spelled_more bs i h =
-    let b = get_or bs i 0 in
-    ap spelled (take_more bs i 0 h) ∙ spelled-append (take i bs) (b ∷ []) ∙ sym (append_assoc (spelled (take i bs)) (digit (b / 16) ∷ []) (digit (b % 16) ∷ []))
+-- what `{:02X}` writes of a byte
+pub two_capitals : (b : ℕ) → b < 256 → padded_integral (format_spec 32 0 4 2 (2 ^ 64 - 1)) false [] (digits 16 true b) ≡ spelled (b ∷ [])
+two_capitals b h = hex_byte true b h
 
--- one turn of the writer: two digits are pushed, each as one byte of text
-pub spelled_turn : (bs : List ℕ) (i d e : ℕ) (t u v one two : List ℕ) → i < length bs → t ≡ spelled (take i bs) → d ≡ digit (get_or bs i 0 / 16) → e ≡ digit (get_or bs i 0 % 16) → one ≡ d ∷ [] → two ≡ e ∷ [] → u ≡ t ++ one → v ≡ u ++ two → v ≡ spelled (take (i + 1) bs)
-spelled_turn bs i d e t u v one two h a b c p q r s = let m = spelled_more bs i h in cc
+-- one byte more
+pub spelled_more : (bs : List ℕ) (i : ℕ) → i < length bs → spelled (take (i + 1) bs) ≡ spelled (take i bs) ++ spelled (get_or bs i 0 ∷ [])
+spelled_more bs i h = ap spelled (take_more bs i 0 h) ∙ spelled-append (take i bs) (get_or bs i 0 ∷ [])

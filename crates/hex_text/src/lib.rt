@@ -1,33 +1,57 @@
 // Bytes as hexadecimal text.
 #![tactic(auto)]
 
-ghost use Rattle.std.specs.Prelude.{◌≡◌, ◌<◌, IfOk, Ok, vec_items, string_bytes};
-ghost use Rattle.hex_text.specs.Hex.{digit as digit_of, value as value_of, blank, byte as byte_of, spelled, decoded, Decodes};
+ghost use Rattle.std.specs.Prelude.{◌≡◌, IfOk, Ok, Some, vec_items, string_bytes};
+ghost use Rattle.hex_text.specs.Hex.{value as value_of, blank, byte as byte_of, spelled, decoded, Decodes};
+ghost use Rattle.hex_text.specs.Words.{error_words};
 ghost use Rattle.hex_text.specs.declared.HexError.TheVariants.{NoMemory};
 
 use std::alloc::{AllocError, AllocFailed, Global};
+use std::error::Error;
+use std::fmt;
+use std::fmt::Write;
 
-#[derive(Clone, Copy)]
+#[derive(Clone, Copy, Debug, PartialEq, Eq)]
 pub enum HexError {
     // What stands at this place is neither a blank nor two digits.
     NotHex(usize),
     NoMemory,
 }
 
+impl fmt::Display for HexError {
+    ghost output = { λ error. Some (error_words error) };
+
+    fn fmt<W: fmt::Write>(&self, f: &mut fmt::Formatter<W>) -> fmt::Result {
+        match self {
+            HexError::NotHex(place) => {
+                let column = place.saturating_add(1);
+                write!(
+                    f,
+                    "not hexadecimal: no byte of two digits at column {column}"
+                )
+            }
+            HexError::NoMemory => f.write_str("too long for the memory"),
+        }
+    }
+}
+
+impl Error for HexError {}
+
 impl<T: Drop> From<AllocFailed<T>> for HexError {
     ghost from_gives = { λ x r. r ≡ NoMemory };
 
-    fn from(_refused: AllocFailed<T>) -> HexError {
-        HexError::NoMemory
+    fn from(_refused: AllocFailed<T>) -> Self {
+        Self::NoMemory
     }
 }
 
 fn is_blank(c: u8) -> bool
     ensures { result ≡ blank c }
 {
-    c == b' ' || c == b'\t' || c == b'\r'
+    matches!(c, b' ' | b'\t' | b'\r')
 }
 
+// By ranges of bytes: `char::to_digit` answers a u32, and would need casts on both sides.
 fn value(c: u8) -> Option<u8>
     ensures { result ≡ value_of c }
 {
@@ -42,56 +66,39 @@ fn value(c: u8) -> Option<u8>
 fn byte(high: u8, low: u8) -> Option<u8>
     ensures { result ≡ byte_of (value_of high) (value_of low) }
 {
-    let (Some(h), Some(l)) = (value(high), value(low)) else {
-        return None;
-    };
-    Some(h * 16 + l)
+    Some(value(high)? * 16 + value(low)?)
 }
 
 // Reads a line of bytes.
+#[tactic(auto, using(crate::proofs::Turns::skips, crate::proofs::Turns::takes))]
 pub fn decode(heap: Global, text: &[u8]) -> Result<Vec<u8>, HexError>
     ensures { Decodes vec_items text.now result }
 {
     let mut bytes = Vec::new(heap);
-    let mut i = 0;
-    while i < text.len() {
-        if is_blank(text[i]) {
-            i += 1;
-            continue;
-        }
-        if i + 1 == text.len() {
-            return Err(HexError::NotHex(i));
-        }
-        let Some(b) = byte(text[i], text[i + 1]) else {
-            return Err(HexError::NotHex(i));
+    let mut rest = text;
+    loop {
+        let place = text.len() - rest.len();
+        rest = match rest {
+            [] => return Ok(bytes),
+            [c, more @ ..] if is_blank(*c) => more,
+            [high, low, more @ ..] => {
+                bytes.push(byte(*high, *low).ok_or(HexError::NotHex(place))?)?;
+                more
+            }
+            [_] => return Err(HexError::NotHex(place)),
         };
-        bytes.push(b)?;
-        i += 2;
-    }
-    Ok(bytes)
-}
-
-fn digit(d: u8) -> char
-    requires { d < 16 }
-    ensures value { result ≡ digit_of d }
-    ensures ascii { result < 128 }
-{
-    if d < 10 {
-        (b'0' + d) as char
-    } else {
-        (b'A' + (d - 10)) as char
     }
 }
 
 // Writes bytes as capital digits, two to a byte, with nothing between.
+#[tactic(auto, using(crate::proofs::Backs::two_capitals, crate::proofs::Backs::spelled_more))]
 pub fn encode(heap: Global, bytes: &[u8]) -> Result<String, AllocError>
     ensures text { IfOk result (λ t. string_bytes t ≡ spelled bytes.now) }
     ensures back { IfOk result (λ t. decoded (string_bytes t) ≡ Ok bytes.now) }
 {
     let mut text = String::new(heap);
     for b in bytes {
-        text.push(digit(*b / 16))?;
-        text.push(digit(*b % 16))?;
+        write!(text, "{b:02X}")?;
     }
     Ok(text)
 }

@@ -1,5 +1,4 @@
 // What one frame is, in words.
-use super::words;
 use frame::{Body, CodecFault, Detail, MAX_FRAME, Message, MessageKind, ReadError, Refusal};
 use std::alloc::Global;
 use std::io;
@@ -14,15 +13,11 @@ fn bytes_text(heap: Global, bytes: &[u8]) -> io::Result<String> {
 
 // The printable characters as they are, and a dot for any other.
 fn printable(heap: Global, bytes: &[u8]) -> io::Result<String> {
-    let mut text = String::new(heap);
-    for b in bytes {
-        text.push(if *b >= b' ' && *b <= b'~' {
-            *b as char
-        } else {
-            '.'
-        })?;
-    }
-    Ok(text)
+    let shown = bytes.iter().map(|b| match b {
+        b' '..=b'~' => *b as char,
+        _ => '.',
+    });
+    Ok(shown.collect(heap)?)
 }
 
 fn show_detail(rt: &HostRuntime, detail: Detail<'_>) -> io::Result<()> {
@@ -33,11 +28,10 @@ fn show_detail(rt: &HostRuntime, detail: Detail<'_>) -> io::Result<()> {
 }
 
 fn show_message(rt: &HostRuntime, message: &Message<'_>) -> io::Result<()> {
-    let service = words::service(message.service);
-    println!(rt; "  service  {service}")?;
+    let service = message.service;
     let kind = message.body.kind();
-    let name = words::message(kind);
-    println!(rt; "  message  {name}")?;
+    println!(rt; "  service  {service}")?;
+    println!(rt; "  message  {kind}")?;
     if let Body::ActReq(pid, _) = message.body {
         println!(rt; "  PID      {pid:02X}")?;
     }
@@ -45,7 +39,7 @@ fn show_message(rt: &HostRuntime, message: &Message<'_>) -> io::Result<()> {
     let length = payload.len();
     let text = bytes_text(rt.alloc(), payload)?;
     println!(rt; "  payload  {text} (length {length})")?;
-    if let MessageKind::Error = kind {
+    if kind == MessageKind::Error {
         show_detail(rt, message.detail())?;
     }
     Ok(())
@@ -53,17 +47,13 @@ fn show_message(rt: &HostRuntime, message: &Message<'_>) -> io::Result<()> {
 
 fn show_fault(rt: &HostRuntime, fault: CodecFault) -> io::Result<()> {
     let code = fault.code();
-    let letter = code.letter as char;
-    let digit = code.digit as char;
     let place = code.place;
-    let words = words::fault(fault);
-    println!(rt; "  fault {letter}{digit} at byte {place}: {words}")
+    println!(rt; "  fault {code} at byte {place}: {fault}")
 }
 
 fn show_refusal(rt: &HostRuntime, refusal: Refusal) -> io::Result<()> {
     let number = refusal.number();
-    let words = words::refusal(refusal);
-    println!(rt; "  refused {number}: {words}")
+    println!(rt; "  refused {number}: {refusal}")
 }
 
 fn show_again(rt: &HostRuntime, message: &Message<'_>) -> io::Result<()> {

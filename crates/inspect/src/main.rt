@@ -2,13 +2,12 @@
 #![tactic(auto)]
 
 mod explain;
-mod words;
 
 use explain::explain;
-use hex_text::HexError;
 use std::io;
 use std::io::{BufRead, BufReader};
 
+// Not `trim_ascii`, which drops form feeds too: a line of form feeds is not empty.
 fn trimmed(mut line: &[u8]) -> &[u8] {
     while let [b' ' | b'\t' | b'\r', rest @ ..] = line {
         line = rest;
@@ -22,13 +21,7 @@ fn trimmed(mut line: &[u8]) -> &[u8] {
 fn explain_digits(rt: &HostRuntime, number: u64, digits: &[u8]) -> io::Result<()> {
     match hex_text::decode(rt.alloc(), digits) {
         Ok(bytes) => explain(rt, number, &bytes),
-        Err(HexError::NotHex(place)) => {
-            let column = place.saturating_add(1);
-            println!(rt;
-                "line {number} is not hexadecimal: no byte of two digits at column {column}"
-            )
-        }
-        Err(HexError::NoMemory) => println!(rt; "line {number} is too long for the memory"),
+        Err(error) => println!(rt; "line {number} is {error}"),
     }
 }
 
@@ -42,9 +35,8 @@ fn explain_line(rt: &HostRuntime, number: u64, line: &[u8]) -> io::Result<()> {
 }
 
 fn main(rt: HostRuntime) -> io::Result<()> {
-    let mut number: u64 = 0;
-    for line in BufReader::new(rt.alloc(), rt.stdin())?.split(rt.alloc(), b'\n') {
-        number = number.saturating_add(1);
+    let lines = BufReader::new(rt.alloc(), rt.stdin())?.split(rt.alloc(), b'\n');
+    for (number, line) in (1..).zip(lines) {
         explain_line(&rt, number, &line?)?;
     }
     Ok(())

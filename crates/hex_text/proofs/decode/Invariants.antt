@@ -1,11 +1,14 @@
-use Rattle.std.proofs.Common.{◌≡◌, ◌-◌, length, vec_items}
+use Rattle.std.proofs.Common.{◌≡◌, ◌≤◌, length, vec_items}
 use Rattle.hex_text.specs.Hex.{decoded}
 use Rattle.hex_text.proofs.Turns.{state}
 use Rattle.hex_text.proofs.decode.Given as goal
 
 -- what was read and what is left come to what the whole text reads as
-abbrev pub invariant-loop-i : goal.invariant-loop-i
-invariant-loop-i l = state (vec_items l.bytes) l.i l.text ≡ decoded l.text
+abbrev pub invariant-loop-rest : goal.invariant-loop-rest
+invariant-loop-rest l = record {
+  within : length l.rest ≤ length l.text;
+  reads : state (vec_items l.bytes) (length l.text) l.rest ≡ decoded l.text;
+}
 
-abbrev pub decreases-loop-i : goal.decreases-loop-i
-decreases-loop-i l = length l.text - l.i
+abbrev pub decreases-loop-rest : goal.decreases-loop-rest
+decreases-loop-rest l = length l.rest
