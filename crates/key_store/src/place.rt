@@ -5,13 +5,14 @@ use suite::KeyKind;
 mod calls;
 
 // What a live key goes by.
-#[derive(Clone, Copy)]
+#[derive(Clone, Copy, PartialEq, Eq)]
 pub struct Label {
     serial: u32,
     kind: KeyKind,
 }
 
-// Room for one key. Without a label no key is live here, and the bytes are zeros.
+// Room for one key. Without a label no key is live here, and the bytes are zeros: a place has them with or without a key, which an
+// Option of label and value together would not say.
 #[derive(Drop)]
 pub struct Place {
     label: Option<Label>,

@@ -17,15 +17,13 @@ impl Place {
         }
     }
 
-    // A place with a key, whose value is copied into it.
-    pub(crate) fn holding(serial: u32, kind: KeyKind, value: &[u8; 16]) -> Place
-        ensures { key_in result ≡ record { serial = serial; kind = kind; value = value.now } ∷ [] }
+    // A place with a key.
+    pub(crate) fn holding(serial: u32, kind: KeyKind, value: [u8; 16]) -> Place
+        ensures { key_in result ≡ record { serial = serial; kind = kind; value = value } ∷ [] }
     {
-        let mut copy = [0; 16];
-        copy.copy_from_slice(value);
         Place {
             label: Some(Label { serial, kind }),
-            value: copy,
+            value,
         }
     }
 
@@ -39,21 +37,13 @@ impl Place {
     pub(crate) fn is_live(&self, serial: u32) -> bool
         ensures { result ≡ is_live (key_in self.now) serial }
     {
-        match self.label {
-            Some(label) => label.serial == serial,
-            None => false,
-        }
+        self.label.is_some_and(|label| label.serial == serial)
     }
 
     // The value, if the key of that kind and serial lies here.
     pub(crate) fn value_of(&self, kind: KeyKind, serial: u32) -> Option<&[u8; 16]>
         ensures { option_map (λ x. x.now) result ≡ value_in (key_in self.now) kind serial }
     {
-        let label = self.label?;
-        if label.serial == serial && label.kind.number() == kind.number() {
-            Some(&self.value)
-        } else {
-            None
-        }
+        (self.label == Some(Label { serial, kind })).then_some(&self.value)
     }
 }

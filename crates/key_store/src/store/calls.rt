@@ -5,6 +5,7 @@ ghost use Rattle.key_store.specs.Stores.{newest_of, keys_of, is_spent, put_answe
 
 use super::super::place::Place;
 use super::KeyStore;
+use std::mem;
 use suite::{Denial, KeyKind};
 
 impl KeyStore {
@@ -31,10 +32,9 @@ impl KeyStore {
     pub fn value_of(&self, kind: KeyKind, serial: u32) -> Option<&[u8; 16]>
         ensures { option_map (λ x. x.now) result ≡ value_in (keys_of self.now) kind serial }
     {
-        match self.first.value_of(kind, serial) {
-            Some(value) => Some(value),
-            None => self.second.value_of(kind, serial),
-        }
+        self.first
+            .value_of(kind, serial)
+            .or(self.second.value_of(kind, serial))
     }
 
     // No further key: two are live, or the serials are used up.
@@ -54,7 +54,7 @@ impl KeyStore {
             return Err(Denial::Spent);
         }
         let serial = self.newest + 1;
-        let place = Place::holding(serial, kind, value);
+        let place = Place::holding(serial, kind, *value);
         if self.first.is_empty() {
             self.first = place;
         } else {
@@ -71,14 +71,13 @@ impl KeyStore {
         ensures live { keys_of self.new ≡ without (keys_of self.old) serial }
     {
         if self.first.is_live(serial) {
-            self.first = std::mem::replace(&mut self.second, Place::empty());
-            return true;
-        }
-        if self.second.is_live(serial) {
+            self.first = mem::replace(&mut self.second, Place::empty());
+        } else if self.second.is_live(serial) {
             self.second = Place::empty();
-            return true;
+        } else {
+            return false;
         }
-        false
+        true
     }
 
     // Removes every live key.
