@@ -7,8 +7,8 @@ mod calls;
 // What a live key goes by.
 #[derive(Clone, Copy, PartialEq, Eq)]
 pub struct Label {
-    serial: u32,
-    kind: KeyKind,
+    pub(crate) serial: u32,
+    pub(crate) kind: KeyKind,
 }
 
 // Room for one key. Without a label no key is live here, and the bytes are zeros: a place has them with or without a key, which an

@@ -1,10 +1,9 @@
-ghost use Rattle.std.specs.Prelude.{◌≡◌, not, [], ◌∷◌, is_some};
+ghost use Rattle.std.specs.Prelude.{◌≡◌, not, [], Some, is_some};
 ghost use Rattle.std.specs.Option.{option_map};
-ghost use Rattle.suite.specs.Meanings.{Key, value_in, is_live};
-ghost use Rattle.key_store.specs.Places.{key_in};
+ghost use Rattle.suite.specs.Meanings.{value_in, is_live};
+ghost use Rattle.key_store.specs.Places.{labelled, key_in};
 
 use super::{Label, Place};
-use suite::KeyKind;
 
 impl Place {
     // A place without a key.
@@ -18,11 +17,11 @@ impl Place {
     }
 
     // A place with a key.
-    pub(crate) fn holding(serial: u32, kind: KeyKind, value: [u8; 16]) -> Place
-        ensures { key_in result ≡ record { serial = serial; kind = kind; value = value } ∷ [] }
+    pub(crate) fn holding(label: Label, value: [u8; 16]) -> Place
+        ensures { key_in result ≡ labelled (Some label) value }
     {
         Place {
-            label: Some(Label { serial, kind }),
+            label: Some(label),
             value,
         }
     }
@@ -40,10 +39,10 @@ impl Place {
         self.label.is_some_and(|label| label.serial == serial)
     }
 
-    // The value, if the key of that kind and serial lies here.
-    pub(crate) fn value_of(&self, kind: KeyKind, serial: u32) -> Option<&[u8; 16]>
-        ensures { option_map (λ x. x.now) result ≡ value_in (key_in self.now) kind serial }
+    // The value, if the key of that label lies here.
+    pub(crate) fn value_of(&self, label: Label) -> Option<&[u8; 16]>
+        ensures { option_map (λ x. x.now) result ≡ value_in (key_in self.now) label.kind label.serial }
     {
-        (self.label == Some(Label { serial, kind })).then_some(&self.value)
+        (self.label == Some(label)).then_some(&self.value)
     }
 }

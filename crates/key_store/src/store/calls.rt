@@ -3,7 +3,7 @@ ghost use Rattle.std.specs.Option.{option_map};
 ghost use Rattle.suite.specs.Meanings.{value_in, is_live, without};
 ghost use Rattle.key_store.specs.Stores.{newest_of, keys_of, is_spent, put_answer, put_newest, put_keys, end_answer};
 
-use super::super::place::Place;
+use super::super::place::{Label, Place};
 use super::KeyStore;
 use std::mem;
 use suite::{Denial, KeyKind};
@@ -32,9 +32,8 @@ impl KeyStore {
     pub fn value_of(&self, kind: KeyKind, serial: u32) -> Option<&[u8; 16]>
         ensures { option_map (λ x. x.now) result ≡ value_in (keys_of self.now) kind serial }
     {
-        self.first
-            .value_of(kind, serial)
-            .or(self.second.value_of(kind, serial))
+        let label = Label { serial, kind };
+        self.first.value_of(label).or(self.second.value_of(label))
     }
 
     // No further key: two are live, or the serials are used up.
@@ -54,7 +53,7 @@ impl KeyStore {
             return Err(Denial::Spent);
         }
         let serial = self.newest + 1;
-        let place = Place::holding(serial, kind, *value);
+        let place = Place::holding(Label { serial, kind }, *value);
         if self.first.is_empty() {
             self.first = place;
         } else {
