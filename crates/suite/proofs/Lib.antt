@@ -1,2 +1,3 @@
 pub mod ByteLaws
 pub mod CallLaws
+pub mod RoleLaws
