@@ -9,6 +9,7 @@ pub(crate) fn mask(key: &[u8; 16], bytes: &[u8], out: &mut [u8])
     requires { length bytes.now ≤ length out.old }
     ensures { out.new ≡ over (masked key.now 0 bytes.now) out.old }
 {
+    // By index: what a loop over a zip of `iter_mut` has written, no proof knows.
     for (i, byte) in bytes.iter().enumerate() {
         out[i] = byte ^ key[i % 16];
     }

@@ -11,8 +11,8 @@ pub struct Label {
     pub(crate) kind: KeyKind,
 }
 
-// Room for one key. Without a label no key is live here, and the bytes are zeros: a place has them with or without a key, which an
-// Option of label and value together would not say.
+// Room for one key. Without a label no key is live here, and the bytes are zeros.
+// The value is no part of the Option: memory for it is fixed, and a place without a key has to hold sixteen zeros.
 #[derive(Drop)]
 pub struct Place {
     label: Option<Label>,

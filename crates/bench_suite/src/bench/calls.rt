@@ -99,8 +99,8 @@ impl Suite for Bench {
         if out.len() < 255 {
             return Err(Denial::Unfit);
         }
-        let [a, b, c, ..] = self.value(KeyKind::SharedSecret, key)?;
-        Ok(write(&[role.byte(), *a, *b, *c], out))
+        let &[a, b, c, ..] = self.value(KeyKind::SharedSecret, key)?;
+        Ok(write(&[role.byte(), a, b, c], out))
     }
 
     fn reveal(&self, key: u32, out: &mut [u8]) -> Result<usize, Denial> {
