@@ -1,18 +1,11 @@
 ghost use Rattle.std.specs.Prelude.{◌≡◌, ℕ, ◌+◌, ◌≤◌, length, Ok};
 ghost use Rattle.buffers.specs.Buffers.{over};
 ghost use Rattle.suite.specs.Calls.{open_answer, open_written};
-ghost use Rattle.suite.specs.Schemes.{ok_role};
-ghost use Rattle.bench_suite.specs.Payloads.{sum_byte, payload_of, is_good, read_of};
+ghost use Rattle.suite.specs.Numbers.{role_byte};
+ghost use Rattle.bench_suite.specs.Payloads.{sum_byte, payload_of, read_of};
 
 use super::xor::mask;
 use suite::Role;
-
-// The Sender's byte or the Recipient's.
-pub(crate) fn is_role(role: u8) -> bool
-    ensures { result ≡ ok_role role }
-{
-    role == Role::Sender.byte() || role == Role::Recipient.byte()
-}
 
 // Writes bytes to the front of a buffer, and answers how many.
 pub(crate) fn write(bytes: &[u8], out: &mut [u8]) -> usize
@@ -21,7 +14,7 @@ pub(crate) fn write(bytes: &[u8], out: &mut [u8]) -> usize
     ensures buffer { out.new ≡ over bytes.now out.old }
 {
     let n = bytes.len();
-    out[0..n].copy_from_slice(bytes);
+    out[..n].copy_from_slice(bytes);
     n
 }
 
@@ -29,42 +22,31 @@ pub(crate) fn write(bytes: &[u8], out: &mut [u8]) -> usize
 fn sum_byte(bytes: &[u8]) -> u8
     ensures { result ≡ sum_byte bytes.now }
 {
-    let mut sum: u8 = 0;
-    for byte in bytes {
-        sum = sum.wrapping_add(*byte);
-    }
-    sum
+    bytes.iter().fold(0u8, |sum, byte| sum.wrapping_add(*byte))
 }
 
 // Writes the payload that protects the data to the front of a buffer, and answers its length.
 pub(crate) fn write_payload(
     key: &[u8; 16],
-    role: u8,
+    role: Role,
     number: u32,
     plain: &[u8],
     out: &mut [u8],
 ) -> usize
     requires { length plain.now + 6 ≤ length out.old }
-    ensures answer { result ≡ length (payload_of key.now role number plain.now) }
-    ensures buffer { out.new ≡ over (payload_of key.now role number plain.now) out.old }
+    ensures answer { result ≡ length (payload_of key.now (role_byte role) number plain.now) }
+    ensures buffer { out.new ≡ over (payload_of key.now (role_byte role) number plain.now) out.old }
 {
     let [a, b, c, d] = number.to_be_bytes();
-    let head = write(&[role, a, b, c, d], out);
+    let head = write(&[role.byte(), a, b, c, d], out);
     let end = head + plain.len();
     mask(key, plain, &mut out[head..end]);
-    out[end] = sum_byte(&out[0..end]);
+    out[end] = sum_byte(&out[..end]);
     end + 1
 }
 
-// As long as the overhead, with a role in front and the sum of all before it at the end.
-fn is_good(payload: &[u8]) -> bool
-    ensures { result ≡ is_good payload.now }
-{
-    let n = payload.len();
-    n >= 6 && is_role(payload[0]) && payload[n - 1] == sum_byte(&payload[0..n - 1])
-}
-
-// Answers role, number and data length of a payload and writes the data; none, and nothing written, if it is not good.
+// Answers role, number and data length of a payload and writes the data; none, and nothing written, if it is not good: as long
+// as the overhead, with a role in front and the sum of all before it at the end.
 pub(crate) fn read_payload(
     key: &[u8; 16],
     payload: &[u8],
@@ -74,11 +56,17 @@ pub(crate) fn read_payload(
     ensures answer { Ok result ≡ open_answer (Ok (read_of key.now payload.now)) }
     ensures buffer { out.new ≡ open_written (Ok (read_of key.now payload.now)) out.old }
 {
-    if !is_good(payload) {
+    let [body @ .., sum] = payload else {
+        return None;
+    };
+    let [role, a, b, c, d, data @ ..] = body else {
+        return None;
+    };
+    let role = Role::try_from(*role).ok()?;
+    if *sum != sum_byte(body) {
         return None;
     }
-    let end = payload.len() - 1;
-    mask(key, &payload[5..end], out);
-    let number = u32::from_be_bytes([payload[1], payload[2], payload[3], payload[4]]);
-    Some((payload[0], number, end - 5))
+    mask(key, data, out);
+    let number = u32::from_be_bytes([*a, *b, *c, *d]);
+    Some((role.byte(), number, data.len()))
 }

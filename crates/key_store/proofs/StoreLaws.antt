@@ -1,19 +1,15 @@
--- What a suite means that keeps its keys in a store: it is well formed, and put is what the calls that make a key do.
-use Rattle.std.proofs.Common.{◌≡◌, ℕ, ◌+◌, ◌<◌, ◌≤◌, Bool, true, false, cond, eqb, List, [], ◌∷◌, ◌++◌, Some, None, Ok, Err, Option, Result, refl, ap, ◌∙◌, arith, lit<}
+-- What a suite means that keeps its keys in a store is well formed.
+use Rattle.std.proofs.Common.{◌≡◌, ℕ, ◌<◌, ◌≤◌, true, false, eqb, List, ◌++◌, Some, None, Option, refl, arith, lit<}
 use Rattle.std.specs.List.{AllByRecursion}
 use Rattle.std.proofs.ByRecursion.{All-append}
 use Rattle.std.proofs.lemmas.Bool.{eq-eqb, ne_eqb, or_left, or_from}
-use Rattle.suite.specs.declared.types.KeyKind.{KeyKind}
-use Rattle.suite.specs.declared.types.Denial.{Denial}
-use Rattle.suite.specs.declared.types.Denial.TheVariants.{Spent}
-use Rattle.suite.specs.Calls.{serial_answer, after_making}
-use Rattle.suite.specs.Meanings.{Meaning, Bytes16, WellFormed, Apart, is_live}
+use Rattle.suite.specs.Meanings.{Bytes16, WellFormed, Apart, is_live}
 use Rattle.suite.proofs.ByteLaws.{bytes16_from}
 use Rattle.key_store.specs.declared.place.Label.{Label}
 use Rattle.key_store.specs.declared.place.Place.{Place}
 use Rattle.key_store.specs.declared.store.KeyStore.{KeyStore}
 use Rattle.key_store.specs.Places.{labelled, key_in}
-use Rattle.key_store.specs.Stores.{last_serial, kept_meaning, newest_of, keys_of, is_spent, put_answer, put_newest, put_keys}
+use Rattle.key_store.specs.Stores.{kept_meaning}
 
 -- the serial that a label names is live
 own_serial : (l : Label) (value : List ℕ) → is_live (labelled (Some l) value) l.serial ≡ true
@@ -56,26 +52,3 @@ kept_formed root s h =
       serials = All-append (λ k. P k.serial) (key_in a) (key_in b) (serials_of P a.label a.value s.firsts) (serials_of P b.label b.value s.seconds);
       apart = apart_from a.label b.label a.value b.value s.ordered;
     }
-
--- a new key's value, unless the store is spent
-abbrev pub admitted : KeyStore → List ℕ → Result (List ℕ) Denial
-admitted s value = cond (is_spent s) (Err Spent) (Ok value)
-
--- put answers the serial that a call that makes a key answers
-pub put_answers : (root : List ℕ) (s : KeyStore) (value : List ℕ) → put_answer s ≡ serial_answer (kept_meaning root s) (admitted s value)
-put_answers root s value = by (is_spent s)
-  where
-    by : (t : Bool) → cond t (Err Spent) (Ok (newest_of s + 1)) ≡ serial_answer (kept_meaning root s) (cond t (Err Spent) (Ok value))
-    by true = refl
-    by false = refl
-
--- put leaves what a call that makes a key leaves
-pub put_leaves : (root : List ℕ) (s after : KeyStore) (kind : KeyKind) (value : List ℕ) → newest_of after ≡ put_newest s → keys_of after ≡ put_keys s kind value → kept_meaning root after ≡ after_making (kept_meaning root s) kind (admitted s value)
-put_leaves root s after kind value n k =
-    ap (λ z. record { root = root; last = last_serial; newest = z; live = keys_of after }) n
-    ∙ ap (λ z. record { root = root; last = last_serial; newest = put_newest s; live = z }) k
-    ∙ by (is_spent s)
-  where
-    by : (t : Bool) → ◌≡◌ {A = Meaning} (record { root = root; last = last_serial; newest = cond t (newest_of s) (newest_of s + 1); live = cond t (keys_of s) (keys_of s ++ (record { serial = newest_of s + 1; kind = kind; value = value } ∷ [])) }) (after_making (kept_meaning root s) kind (cond t (Err Spent) (Ok value)))
-    by true = refl
-    by false = refl

@@ -5,13 +5,14 @@ use suite::KeyKind;
 mod calls;
 
 // What a live key goes by.
-#[derive(Clone, Copy)]
+#[derive(Clone, Copy, PartialEq, Eq)]
 pub struct Label {
-    serial: u32,
-    kind: KeyKind,
+    pub(crate) serial: u32,
+    pub(crate) kind: KeyKind,
 }
 
 // Room for one key. Without a label no key is live here, and the bytes are zeros.
+// The value is no part of the Option: memory for it is fixed, and a place without a key has to hold sixteen zeros.
 #[derive(Drop)]
 pub struct Place {
     label: Option<Label>,

@@ -7,6 +7,8 @@ mod calls;
 
 // At most two live keys, the older one in the first place, with serials from 1 to the newest.
 // It is not let go but ended, so that no live key is lost sight of.
+// The places have names, and are no array, since each fact below is of the one or of the other. There is no Model: the law that a
+// suite's meaning is well formed reads these facts, and a view would hide them.
 pub struct KeyStore {
     newest: u32,
     first: Place,

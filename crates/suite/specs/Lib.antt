@@ -2,3 +2,4 @@ pub mod Calls
 pub mod Meanings
 pub mod Numbers
 pub mod Schemes
+pub mod Words

@@ -1,5 +1,5 @@
 -- The numbers of roles, key kinds and denials: one definition for each enum.
-use Rattle.std.specs.Prelude.{ℕ}
+use Rattle.std.specs.Prelude.{ℕ, cond, Ok, Err, Result, ◌==◌}
 use Rattle.suite.specs.declared.types.Role.{Role}
 use Rattle.suite.specs.declared.types.Role.TheVariants.{Sender, Recipient}
 use Rattle.suite.specs.declared.types.KeyKind.{KeyKind}
@@ -11,6 +11,10 @@ use Rattle.suite.specs.declared.types.Denial.TheVariants.{BadOffer, Spent, Unfit
 abbrev pub role_byte : Role → ℕ
 role_byte Sender = 1
 role_byte Recipient = 2
+
+-- the role that a byte stands for; any other byte is unfit
+abbrev pub role_of : ℕ → Result Role Denial
+role_of b = cond (b == role_byte Sender) (Ok Sender) (cond (b == role_byte Recipient) (Ok Recipient) (Err Unfit))
 
 abbrev pub kind_number : KeyKind → ℕ
 kind_number SharedSecret = 1

@@ -1,8 +1,12 @@
-ghost use Rattle.std.specs.Prelude.{◌≡◌};
-ghost use Rattle.suite.specs.Numbers.{role_byte, kind_number, denial_number};
+ghost use Rattle.std.specs.Prelude.{◌≡◌, Some};
+ghost use Rattle.suite.specs.Numbers.{role_byte, role_of, kind_number, denial_number};
+ghost use Rattle.suite.specs.Words.{role_text, kind_text, denial_text};
+
+use std::error::Error;
+use std::fmt;
 
 // The Sender sent ACT_REQ, the Recipient received it.
-#[derive(Clone, Copy)]
+#[derive(Clone, Copy, Debug, PartialEq, Eq)]
 pub enum Role {
     Sender = 1,
     Recipient = 2,
@@ -16,7 +20,33 @@ impl Role {
     }
 }
 
-#[derive(Clone, Copy)]
+// A byte that stands for neither role is unfit.
+impl TryFrom<u8> for Role {
+    type Error = Denial;
+
+    ghost try_from_gives = { λ byte r. r ≡ role_of byte };
+
+    fn try_from(byte: u8) -> Result<Role, Denial> {
+        match byte {
+            1 => Ok(Role::Sender),
+            2 => Ok(Role::Recipient),
+            _ => Err(Denial::Unfit),
+        }
+    }
+}
+
+impl fmt::Display for Role {
+    ghost output = { λ role. Some (role_text role) };
+
+    fn fmt<W: fmt::Write>(&self, f: &mut fmt::Formatter<W>) -> fmt::Result {
+        f.write_str(match self {
+            Role::Sender => "Sender",
+            Role::Recipient => "Recipient",
+        })
+    }
+}
+
+#[derive(Clone, Copy, Debug, PartialEq, Eq)]
 pub enum KeyKind {
     SharedSecret = 1,
     LinkKey = 2,
@@ -30,8 +60,19 @@ impl KeyKind {
     }
 }
 
+impl fmt::Display for KeyKind {
+    ghost output = { λ kind. Some (kind_text kind) };
+
+    fn fmt<W: fmt::Write>(&self, f: &mut fmt::Formatter<W>) -> fmt::Result {
+        f.write_str(match self {
+            KeyKind::SharedSecret => "shared secret",
+            KeyKind::LinkKey => "link key",
+        })
+    }
+}
+
 // Why a suite denies a call.
-#[derive(Clone, Copy, Debug)]
+#[derive(Clone, Copy, Debug, PartialEq, Eq)]
 pub enum Denial {
     // S2: the peer's offer is not fit.
     BadOffer = 2,
@@ -51,8 +92,23 @@ impl Denial {
     }
 }
 
+impl fmt::Display for Denial {
+    ghost output = { λ denial. Some (denial_text denial) };
+
+    fn fmt<W: fmt::Write>(&self, f: &mut fmt::Formatter<W>) -> fmt::Result {
+        f.write_str(match self {
+            Denial::BadOffer => "S2, the offer is not fit",
+            Denial::Spent => "S3, no further key",
+            Denial::Unfit => "unfit",
+            Denial::Unknown => "unknown key",
+        })
+    }
+}
+
+impl Error for Denial {}
+
 // What every suite of one kind has in common.
-#[derive(Clone, Copy)]
+#[derive(Clone, Copy, Debug, PartialEq, Eq)]
 pub struct KindNumbers {
     // The byte that names the kind in ACT_REQ.
     pub pid: u8,

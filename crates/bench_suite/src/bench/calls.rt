@@ -1,14 +1,16 @@
-ghost use Rattle.std.specs.Prelude.{◌≡◌, []};
+ghost use Rattle.std.specs.Prelude.{◌≡◌, [], None, Some, MatchResult};
+ghost use Rattle.suite.specs.declared.types.Denial.TheVariants.{Unknown};
+ghost use Rattle.suite.specs.Meanings.{value_in};
 ghost use Rattle.bench_suite.specs.Benches.{bench_scheme, bench_meaning};
 ghost use Rattle.bench_suite.specs.BenchLaws.{bench_lawful};
 ghost use Rattle.suite.proofs.ByteLaws.{bytes16_from};
 ghost use Rattle.key_store.proofs.StoreLaws.{kept_formed};
 
-use super::super::payload::{is_role, read_payload, write, write_payload};
+use super::super::payload::{read_payload, write, write_payload};
 use super::super::xor::{link, secret};
 use super::Bench;
 use key_store::KeyStore;
-use suite::{Denial, KeyKind, KindNumbers, Suite};
+use suite::{Denial, KeyKind, KindNumbers, Role, Suite};
 
 const NUMBERS: KindNumbers = KindNumbers {
     pid: 0xF0,
@@ -30,16 +32,21 @@ impl Bench {
         }
     }
 
+    // The value of the live key of that kind and serial.
+    fn value(&self, kind: KeyKind, key: u32) -> Result<&[u8; 16], Denial>
+        ensures { MatchResult result (λ v. value_in (bench_meaning self.now).live kind key ≡ Some v.now) (λ e. (e ≡ Unknown) × (value_in (bench_meaning self.now).live kind key ≡ None)) }
+    {
+        self.keys.value_of(kind, key).ok_or(Denial::Unknown)
+    }
+
     // Ends the suite: destroys the keys that are still live, and hands the root back to its owner.
     pub fn close(mut self) -> [u8; 16]
         ensures { result ≡ self.root }
     {
         self.keys.clear();
         let Bench { root, keys } = self;
-        match keys.end() {
-            Ok(()) => root,
-            Err(_keys) => unreachable(),
-        }
+        keys.end().unwrap();
+        root
     }
 }
 
@@ -76,40 +83,31 @@ impl Suite for Bench {
     }
 
     fn agree(&mut self, seed: &[u8], offer: &[u8], role: u8) -> Result<u32, Denial> {
-        if seed.len() != 16 || !is_role(role) {
-            return Err(Denial::Unfit);
-        }
-        if !self.is_fit(offer) {
-            return Err(Denial::BadOffer);
-        }
+        let seed: &[u8; 16] = seed.as_array().ok_or(Denial::Unfit)?;
+        Role::try_from(role)?;
+        let offer: &[u8; 16] = offer.as_array().ok_or(Denial::BadOffer)?;
         self.keys.put(KeyKind::SharedSecret, &secret(seed, offer))
     }
 
     fn derive(&mut self, key: u32) -> Result<u32, Denial> {
-        let Some(value) = self.keys.value_of(KeyKind::SharedSecret, key) else {
-            return Err(Denial::Unknown);
-        };
-        let value = link(value);
+        let value = link(self.value(KeyKind::SharedSecret, key)?);
         self.keys.put(KeyKind::LinkKey, &value)
     }
 
     fn check(&self, key: u32, role: u8, out: &mut [u8]) -> Result<usize, Denial> {
-        if !is_role(role) || out.len() < 255 {
+        let role = Role::try_from(role)?;
+        if out.len() < 255 {
             return Err(Denial::Unfit);
         }
-        let Some(value) = self.keys.value_of(KeyKind::SharedSecret, key) else {
-            return Err(Denial::Unknown);
-        };
-        Ok(write(&[role, value[0], value[1], value[2]], out))
+        let &[a, b, c, ..] = self.value(KeyKind::SharedSecret, key)?;
+        Ok(write(&[role.byte(), a, b, c], out))
     }
 
     fn reveal(&self, key: u32, out: &mut [u8]) -> Result<usize, Denial> {
         if out.len() < 16 {
             return Err(Denial::Unfit);
         }
-        let Some(value) = self.keys.value_of(KeyKind::SharedSecret, key) else {
-            return Err(Denial::Unknown);
-        };
+        let value = self.value(KeyKind::SharedSecret, key)?;
         Ok(write(value, out))
     }
 
@@ -121,12 +119,11 @@ impl Suite for Bench {
         plain: &[u8],
         out: &mut [u8],
     ) -> Result<usize, Denial> {
-        if !is_role(role) || plain.len() > 200 || number > 16_777_215 || out.len() < 255 {
+        let role = Role::try_from(role)?;
+        if plain.len() > 200 || number > 16_777_215 || out.len() < 255 {
             return Err(Denial::Unfit);
         }
-        let Some(value) = self.keys.value_of(KeyKind::LinkKey, key) else {
-            return Err(Denial::Unknown);
-        };
+        let value = self.value(KeyKind::LinkKey, key)?;
         Ok(write_payload(value, role, number, plain, out))
     }
 
@@ -139,9 +136,7 @@ impl Suite for Bench {
         if payload.len() > 254 || out.len() < 255 {
             return Err(Denial::Unfit);
         }
-        let Some(value) = self.keys.value_of(KeyKind::LinkKey, key) else {
-            return Err(Denial::Unknown);
-        };
+        let value = self.value(KeyKind::LinkKey, key)?;
         Ok(read_payload(value, payload, out))
     }
 

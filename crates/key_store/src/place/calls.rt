@@ -1,10 +1,9 @@
-ghost use Rattle.std.specs.Prelude.{◌≡◌, not, [], ◌∷◌, is_some};
+ghost use Rattle.std.specs.Prelude.{◌≡◌, not, [], Some, is_some};
 ghost use Rattle.std.specs.Option.{option_map};
-ghost use Rattle.suite.specs.Meanings.{Key, value_in, is_live};
-ghost use Rattle.key_store.specs.Places.{key_in};
+ghost use Rattle.suite.specs.Meanings.{value_in, is_live};
+ghost use Rattle.key_store.specs.Places.{labelled, key_in};
 
 use super::{Label, Place};
-use suite::KeyKind;
 
 impl Place {
     // A place without a key.
@@ -17,15 +16,13 @@ impl Place {
         }
     }
 
-    // A place with a key, whose value is copied into it.
-    pub(crate) fn holding(serial: u32, kind: KeyKind, value: &[u8; 16]) -> Place
-        ensures { key_in result ≡ record { serial = serial; kind = kind; value = value.now } ∷ [] }
+    // A place with a key.
+    pub(crate) fn holding(label: Label, value: [u8; 16]) -> Place
+        ensures { key_in result ≡ labelled (Some label) value }
     {
-        let mut copy = [0; 16];
-        copy.copy_from_slice(value);
         Place {
-            label: Some(Label { serial, kind }),
-            value: copy,
+            label: Some(label),
+            value,
         }
     }
 
@@ -39,21 +36,13 @@ impl Place {
     pub(crate) fn is_live(&self, serial: u32) -> bool
         ensures { result ≡ is_live (key_in self.now) serial }
     {
-        match self.label {
-            Some(label) => label.serial == serial,
-            None => false,
-        }
+        self.label.is_some_and(|label| label.serial == serial)
     }
 
-    // The value, if the key of that kind and serial lies here.
-    pub(crate) fn value_of(&self, kind: KeyKind, serial: u32) -> Option<&[u8; 16]>
-        ensures { option_map (λ x. x.now) result ≡ value_in (key_in self.now) kind serial }
+    // The value, if the key of that label lies here.
+    pub(crate) fn value_of(&self, label: Label) -> Option<&[u8; 16]>
+        ensures { option_map (λ x. x.now) result ≡ value_in (key_in self.now) label.kind label.serial }
     {
-        let label = self.label?;
-        if label.serial == serial && label.kind.number() == kind.number() {
-            Some(&self.value)
-        } else {
-            None
-        }
+        (self.label == Some(label)).then_some(&self.value)
     }
 }

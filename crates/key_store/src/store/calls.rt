@@ -3,8 +3,9 @@ ghost use Rattle.std.specs.Option.{option_map};
 ghost use Rattle.suite.specs.Meanings.{value_in, is_live, without};
 ghost use Rattle.key_store.specs.Stores.{newest_of, keys_of, is_spent, put_answer, put_newest, put_keys, end_answer};
 
-use super::super::place::Place;
+use super::super::place::{Label, Place};
 use super::KeyStore;
+use std::mem;
 use suite::{Denial, KeyKind};
 
 impl KeyStore {
@@ -31,10 +32,8 @@ impl KeyStore {
     pub fn value_of(&self, kind: KeyKind, serial: u32) -> Option<&[u8; 16]>
         ensures { option_map (λ x. x.now) result ≡ value_in (keys_of self.now) kind serial }
     {
-        match self.first.value_of(kind, serial) {
-            Some(value) => Some(value),
-            None => self.second.value_of(kind, serial),
-        }
+        let label = Label { serial, kind };
+        self.first.value_of(label).or(self.second.value_of(label))
     }
 
     // No further key: two are live, or the serials are used up.
@@ -54,7 +53,7 @@ impl KeyStore {
             return Err(Denial::Spent);
         }
         let serial = self.newest + 1;
-        let place = Place::holding(serial, kind, value);
+        let place = Place::holding(Label { serial, kind }, *value);
         if self.first.is_empty() {
             self.first = place;
         } else {
@@ -71,14 +70,13 @@ impl KeyStore {
         ensures live { keys_of self.new ≡ without (keys_of self.old) serial }
     {
         if self.first.is_live(serial) {
-            self.first = std::mem::replace(&mut self.second, Place::empty());
-            return true;
-        }
-        if self.second.is_live(serial) {
+            self.first = mem::replace(&mut self.second, Place::empty());
+        } else if self.second.is_live(serial) {
             self.second = Place::empty();
-            return true;
+        } else {
+            return false;
         }
-        false
+        true
     }
 
     // Removes every live key.

@@ -1,17 +1,10 @@
--- One more byte added, and the end.
-use Rattle.std.proofs.Common.{◌<◌, length, ap, ◌∙◌, arith}
-use Rattle.std.proofs.lemmas.List.{take_all}
-use Rattle.std.proofs.lemmas.List.Sums.{sum_by_more}
-use Rattle.bench_suite.specs.Payloads.{sum_byte}
+-- Adding byte by byte modulo 256 keeps the sum modulo 256.
+use Rattle.std.proofs.Common.{◌≡◌, ◌+◌, ◌%◌, fold, refl, ◌∙◌, arith, rules}
+use Rattle.std.proofs.lemmas.List.Folds.{fold_along}
 use Rattle.bench_suite.proofs.payload.sum_byte.Goals as goal
 
-pub loop-byte-preserved : goal.loop-byte-preserved
-loop-byte-preserved c =
-    let xs = c.args.bytes.now in
-    let i = c.loop-byte.byte-index in
-    let at : i < length xs = omega arith in
-    let more = sum_by_more (λ x. x) xs i 0 at in
-    omega (arith, c.loop-byte.invariant)
-
 pub returns : goal.returns
-returns c = c.loop-byte.invariant ∙ ap sum_byte (take_all c.loop-byte.byte-index c.args.bytes.now c.loop-byte-test.false)
+returns c =
+    let xs = c.args.bytes.now in
+    let folded : c.fold.result ≡ fold (λ a x. (a + x) % 256) 0 xs = search rules in
+    folded ∙ fold_along (λ a x. (a + x) % 256) (λ a x. a + x) (λ a b. a ≡ b % 256) (λ a b x e. omega arith) 0 0 xs refl

@@ -14,7 +14,7 @@ loop-i-preserved c =
     let n = masked-length key 0 xs in
     let h : i < length xs = omega arith in
     let hn : i < length (masked key 0 xs) = omega arith in
-    let ho : i < length c.args.out.now = omega (arith, c.requires.room) in
+    let ho : i < length c.args.out.now = omega arith in
     let e : bit_xor (get_or xs i 0) (get_or key (i % 16) 0) ≡ get_or (masked key 0 xs) i 0 = sym (masked_at key 0 i xs h ∙ ap (λ j. bit_xor (get_or xs i 0) (get_or key (j % 16) 0)) (zero-add i)) in
     ap (λ o. set o i (bit_xor (get_or xs i 0) (get_or key (i % 16) 0))) c.loop-i.invariant ∙ over_more (masked key 0 xs) c.args.out.now i _ hn ho e
 

@@ -1,11 +1,24 @@
--- A mask of sixteen bytes by sixteen is the XOR of the two.
-use Rattle.std.proofs.Common.{◌+◌, ◌≤◌, length, ◌∙◌, arith}
-use Rattle.buffers.proofs.OverLaws.{over_all}
-use Rattle.bench_suite.specs.Masks.{masked-length, masked_straight}
+-- At each place the XOR of the two offers' bytes.
+use Rattle.std.proofs.Common.{◌≡◌, ℕ, zero, suc, ◌<◌, List, [], ◌∷◌, length, get_or, bit_xor, refl, sym, ◌∙◌, arith, rules}
+use Rattle.std.proofs.lemmas.Grind.{same_number_lists}
+use Rattle.bench_suite.specs.Payloads.{xored}
+use Rattle.bench_suite.specs.Masks.{xored-length}
+use Rattle.bench_suite.proofs.Arrays.{made_at}
 use Rattle.bench_suite.proofs.xor.secret.Goals as goal
+
+xored_at : (xs ys : List ℕ) (k : ℕ) → k < length xs → k < length ys → get_or (xored xs ys) k 0 ≡ bit_xor (get_or xs k 0) (get_or ys k 0)
+xored_at [] ys k h i = absurd (omega arith)
+xored_at (x ∷ xs) [] k h i = absurd (omega arith)
+xored_at (x ∷ xs) (y ∷ ys) zero h i = refl
+xored_at (x ∷ xs) (y ∷ ys) (suc k) h i = xored_at xs ys k (omega arith) (omega arith)
 
 pub returns : goal.returns
 returns c =
     let xs = c.args.own.now in
-    let fits : 0 + length xs ≤ 16 = omega arith in
-    c.mask.ensures ∙ over_all _ _ (masked-length c.args.other.now 0 xs ∙ c.requires.own) ∙ masked_straight c.args.other.now 0 xs c.requires.other fits
+    let ys = c.args.other.now in
+    let items = c.from_fn.ensures.items in
+    let n = xored-length xs ys (c.told-own ∙ sym c.told-other) in
+    same_number_lists _ _ (items.long ∙ sym (n ∙ c.told-own)) (λ k low.
+    let below : k < 16 = omega (arith, items.long) in
+    made_at _ (λ i. bit_xor (get_or xs i 0) (get_or ys i 0)) _ _ (λ i y q h. search rules) 0 16 k k (omega arith) below items.each
+    ∙ sym (xored_at xs ys k (omega (arith, c.told-own)) (omega (arith, c.told-other))))
