@@ -35,6 +35,13 @@ impl<S: Suite> Ledger<S> {
         below.into_below()
     }
 
+    // All rows, one for each key that was made through the ledger, in the order made.
+    pub fn rows(&self) -> &[Row]
+        ensures { result.now ≡ rows_of self.now }
+    {
+        self.table.rows()
+    }
+
     // The row at a place, from 0 on; none at an unused place or past the table.
     pub fn row(&self, place: usize) -> Option<Row>
         ensures row { result ≡ slice_get (rows_of self.now) place }

@@ -25,6 +25,13 @@ impl Table {
         }
     }
 
+    // The rows at the used places, in their order.
+    pub(crate) fn rows(&self) -> &[Row]
+        ensures { result.now ≡ rows_in self.now }
+    {
+        &self.rows[0..self.used]
+    }
+
     // The row at a place, or none at an unused place or past the table.
     pub(crate) fn row(&self, place: usize) -> Option<Row>
         ensures row { result ≡ slice_get (rows_in self.now) place }
