@@ -12,6 +12,7 @@ use Rattle.suite.specs.Numbers.{kind_number}
 use Rattle.suite.specs.Calls.{serial_answer, after_making, destroy_answer, after_destroy}
 use Rattle.ledger.specs.declared.row.RowMark.{RowMark}
 use Rattle.ledger.specs.declared.row.RowMark.TheVariants.{Live, Destroyed}
+use Rattle.ledger.proofs.TableLaws.{length-struck}
 use Rattle.ledger.specs.declared.row.Row.{Row}
 use Rattle.ledger.specs.Rows.{live_row, marked, struck, entered, struck_by, Following, Says, TrueOf, Told}
 
@@ -110,11 +111,6 @@ pub made_kept : (start : ℕ) (m m' : Meaning) (kind : KeyKind) (made : Result (
 made_kept start m m' kind made r rows rows' a f e t = rw (f, e, a) (made_told start m kind made rows t)
 
 -- The rows after one is marked.
-
-length-struck : (d : ℕ) (rows : List Row) → length (struck d rows) ≡ length rows
-length-struck d [] = refl
-length-struck d (r ∷ rows) =
-    cond_both (eqb r.serial d) (marked r ∷ rows) (r ∷ struck d rows) (λ l. length l ≡ length (r ∷ rows)) (λ e. refl) (λ e. omega (arith, length-struck d rows))
 
 follow-struck : (n d : ℕ) (rows : List Row) → Following n rows → Following n (struck d rows)
 follow-struck n d [] f = tt

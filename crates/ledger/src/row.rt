@@ -1,5 +1,5 @@
 ghost use Rattle.std.specs.Prelude.{◌≡◌, Some};
-ghost use Rattle.ledger.specs.Rows.{mark_number};
+ghost use Rattle.ledger.specs.Rows.{mark_number, unused_row};
 ghost use Rattle.ledger.specs.Words.{mark_text};
 
 use std::fmt;
@@ -37,4 +37,17 @@ pub struct Row {
     pub serial: u32,
     pub kind: KeyKind,
     pub mark: RowMark,
+}
+
+// What lies at a place of a table that is not used.
+impl Default for Row {
+    ghost is_default = { λ row. row ≡ unused_row };
+
+    fn default() -> Row {
+        Row {
+            serial: 0,
+            kind: KeyKind::SharedSecret,
+            mark: RowMark::Destroyed,
+        }
+    }
 }

@@ -1,11 +1,11 @@
-ghost use Rattle.std.specs.Prelude.{◌≡◌, ℕ, ◌+◌, ◌≤◌, min, [], None};
+ghost use Rattle.std.specs.Prelude.{◌≡◌, ◌+◌, ◌≤◌, min, [], None};
 ghost use Rattle.std.specs.List.{slice_get};
 ghost use Rattle.suite.specs.declared.types.KeyKind.TheVariants.{SharedSecret, LinkKey};
 ghost use Rattle.suite.specs.Calls.{agreed, derived, serial_answer, after_making, destroy_answer, after_destroy};
 ghost use Rattle.quota.specs.Allowances.{with_last};
 ghost use Rattle.quota.specs.AllowanceLaws.{limited-formed};
 ghost use Rattle.ledger.specs.Rows.{entered, struck_by, Told};
-ghost use Rattle.ledger.specs.Ledgers.{ledger_meaning, rows_of};
+ghost use Rattle.ledger.specs.Ledgers.{ledger_meaning, rows_of, StillTold};
 
 use super::super::row::Row;
 use super::super::table::Table;
@@ -86,7 +86,7 @@ impl<S: Suite> Suite for Ledger<S> {
         ensures after { ledger_meaning S.meaning self.new ≡ after_making (ledger_meaning S.meaning self.old) SharedSecret (agreed S.scheme (ledger_meaning S.meaning self.old) seed.now offer.now role) }
         ensures below { S.meaning self.new.below.below ≡ after_making (S.meaning self.old.below.below) SharedSecret (agreed S.scheme (ledger_meaning S.meaning self.old) seed.now offer.now role) }
         ensures rows { rows_of self.new ≡ entered SharedSecret result (rows_of self.old) }
-        ensures told { (start : ℕ) → Told start (ledger_meaning S.meaning self.old) (rows_of self.old) → Told start (ledger_meaning S.meaning self.new) (rows_of self.new) }
+        ensures told { StillTold S.meaning self.old self.new }
     {
         let serial = self.below.agree(seed, offer, role)?;
         self.table.enter(serial, KeyKind::SharedSecret);
@@ -98,7 +98,7 @@ impl<S: Suite> Suite for Ledger<S> {
         ensures after { ledger_meaning S.meaning self.new ≡ after_making (ledger_meaning S.meaning self.old) LinkKey (derived S.scheme (ledger_meaning S.meaning self.old) key) }
         ensures below { S.meaning self.new.below.below ≡ after_making (S.meaning self.old.below.below) LinkKey (derived S.scheme (ledger_meaning S.meaning self.old) key) }
         ensures rows { rows_of self.new ≡ entered LinkKey result (rows_of self.old) }
-        ensures told { (start : ℕ) → Told start (ledger_meaning S.meaning self.old) (rows_of self.old) → Told start (ledger_meaning S.meaning self.new) (rows_of self.new) }
+        ensures told { StillTold S.meaning self.old self.new }
     {
         let serial = self.below.derive(key)?;
         self.table.enter(serial, KeyKind::LinkKey);
@@ -138,7 +138,7 @@ impl<S: Suite> Suite for Ledger<S> {
         ensures after { ledger_meaning S.meaning self.new ≡ after_destroy (ledger_meaning S.meaning self.old) key }
         ensures below { S.meaning self.new.below.below ≡ after_destroy (S.meaning self.old.below.below) key }
         ensures rows { rows_of self.new ≡ struck_by key result (rows_of self.old) }
-        ensures told { (start : ℕ) → Told start (ledger_meaning S.meaning self.old) (rows_of self.old) → Told start (ledger_meaning S.meaning self.new) (rows_of self.new) }
+        ensures told { StillTold S.meaning self.old self.new }
     {
         self.below.destroy(key)?;
         self.table.strike(key);
