@@ -1,6 +1,5 @@
 -- How the place of a serial's row and the marking of that row go together.
 use Rattle.std.proofs.Common.{◌≡◌, ℕ, ◌+◌, ◌≤◌, true, false, cond, not, eqb, List, [], ◌∷◌, length, get_or, set, Some, None, sym, refl, ap, ◌∙◌, one-add, arith}
-use Rattle.std.proofs.lemmas.Bool.{cond_both}
 use Rattle.std.proofs.lemmas.List.{set_past}
 use Rattle.std.proofs.lemmas.Grind.{common_steps}
 use Rattle.std.proofs.lemmas.Option.{cond_some}
@@ -22,8 +21,7 @@ struck_at n rows i d e = let f = cond_some _ _ i e in rw (← f.1) (sym (struck_
 
 pub length-struck : (n : ℕ) (rows : List Row) → length (struck n rows) ≡ length rows
 length-struck n [] = refl
-length-struck n (r ∷ rs) =
-    cond_both (eqb r.serial n) (marked r ∷ rs) (r ∷ struck n rs) (λ l. length l ≡ length (r ∷ rs)) (λ e. refl) (λ e. omega (arith, length-struck n rs))
+length-struck n (r ∷ rs) = grind (arith, common_steps, length-struck n rs)
 
 -- Where no row has that serial, none is marked.
 pub struck_nowhere : (n : ℕ) (rows : List Row) → position (has_serial n) rows ≡ None → struck n rows ≡ rows
