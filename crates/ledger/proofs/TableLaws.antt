@@ -1,8 +1,6 @@
 -- How the place of a serial's row and the marking of that row go together.
-use Rattle.std.proofs.Common.{◌≡◌, ℕ, ◌+◌, ◌≤◌, true, false, cond, not, eqb, List, [], ◌∷◌, length, get_or, set, Some, None, sym, refl, ap, ◌∙◌, one-add, arith}
-use Rattle.std.proofs.lemmas.List.{set_past}
+use Rattle.std.proofs.Common.{◌≡◌, ℕ, List, [], ◌∷◌, length, get_or, set, Some, None, refl, arith}
 use Rattle.std.proofs.lemmas.Grind.{common_steps}
-use Rattle.std.proofs.lemmas.Option.{cond_some}
 use Rattle.std.specs.List.{position, position_or_len}
 use Rattle.arrayvec.proofs.ArrayVecLemmas.{items-with_items}
 use Rattle.ledger.specs.declared.row.Row.{Row}
@@ -11,13 +9,10 @@ use Rattle.ledger.specs.Rows.{marked, struck, has_serial}
 -- The row that is marked is the first of that serial.
 struck_first : (n : ℕ) (rows : List Row) (d : Row) → struck n rows ≡ set rows (position_or_len (has_serial n) rows) (marked (get_or rows (position_or_len (has_serial n) rows) d))
 struck_first n [] d = refl
-struck_first n (r ∷ rs) d =
-    let p = position_or_len (has_serial n) rs in
-    elim (eqb r.serial n) as (λ b. cond b (marked r ∷ rs) (r ∷ struck n rs) ≡ set (r ∷ rs) (cond (not b) (1 + p) 0) (marked (get_or (r ∷ rs) (cond (not b) (1 + p) 0) d)))
-    [ true ↦ refl | false ↦ rw one-add (ap (λ l. r ∷ l) (struck_first n rs d)) ]
+struck_first n (r ∷ rs) d = grind (arith, common_steps, struck_first n rs d)
 
 pub struck_at : (n : ℕ) (rows : List Row) (i : ℕ) (d : Row) → position (has_serial n) rows ≡ Some i → set rows i (marked (get_or rows i d)) ≡ struck n rows
-struck_at n rows i d e = let f = cond_some _ _ i e in rw (← f.1) (sym (struck_first n rows d))
+struck_at n rows i d e = grind (arith, common_steps, struck_first n rows d)
 
 pub length-struck : (n : ℕ) (rows : List Row) → length (struck n rows) ≡ length rows
 length-struck n [] = refl
@@ -26,8 +21,6 @@ length-struck n (r ∷ rs) = grind (arith, common_steps, length-struck n rs)
 -- Where no row has that serial, none is marked.
 pub struck_nowhere : (n : ℕ) (rows : List Row) → position (has_serial n) rows ≡ None → struck n rows ≡ rows
 struck_nowhere n [] e = refl
-struck_nowhere n (r ∷ rs) e =
-    let past : length (r ∷ rs) ≤ position_or_len (has_serial n) (r ∷ rs) = grind (arith, common_steps) in
-    struck_first n (r ∷ rs) r ∙ set_past (r ∷ rs) _ _ past
+struck_nowhere n (r ∷ rs) e = grind (arith, common_steps, struck_first n (r ∷ rs) r)
 
 pub ruleset strikes = (common_steps, struck_at, struck_nowhere, items-with_items)
