@@ -51,7 +51,9 @@ impl<S: Suite> Ledger<S> {
     }
 }
 
-// Calls that change it also say what the suite below means after, and what the rows are; and that the rows still tell of the keys.
+// What changes nothing is handed down by hand: outside `suite` no impl of `Suite` may be for every layer alike.
+// What changes it repeats the trait's clauses, since clauses here stand in place of those, and says more: what the suite below means
+// after, what the rows are, and that they still tell of the keys.
 impl<S: Suite> Suite for Ledger<S> {
     ghost meaning = { ledger_meaning S.meaning };
 
@@ -81,6 +83,7 @@ impl<S: Suite> Suite for Ledger<S> {
         self.below.offer(seed, out)
     }
 
+    // One method for both calls that make a key, with the call below as a closure, needs five clauses to save four lines.
     fn agree(&mut self, seed: &[u8], offer: &[u8], role: u8) -> Result<u32, Denial>
         ensures answer { result ≡ serial_answer (ledger_meaning S.meaning self.old) (agreed S.scheme (ledger_meaning S.meaning self.old) seed.now offer.now role) }
         ensures after { ledger_meaning S.meaning self.new ≡ after_making (ledger_meaning S.meaning self.old) SharedSecret (agreed S.scheme (ledger_meaning S.meaning self.old) seed.now offer.now role) }
