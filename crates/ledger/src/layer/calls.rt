@@ -83,7 +83,7 @@ impl<S: Suite> Suite for Ledger<S> {
         self.below.offer(seed, out)
     }
 
-    // One method for both calls that make a key, with the call below as a closure, needs five clauses to save four lines.
+    // One method for both calls that make a key, with the call below as a closure, needs four clauses and a longer proof to save four lines.
     fn agree(&mut self, seed: &[u8], offer: &[u8], role: u8) -> Result<u32, Denial>
         ensures answer { result ≡ serial_answer (ledger_meaning S.meaning self.old) (agreed S.scheme (ledger_meaning S.meaning self.old) seed.now offer.now role) }
         ensures after { ledger_meaning S.meaning self.new ≡ after_making (ledger_meaning S.meaning self.old) SharedSecret (agreed S.scheme (ledger_meaning S.meaning self.old) seed.now offer.now role) }
