@@ -1,7 +1,7 @@
 ghost use Rattle.std.specs.Prelude.{◌≡◌, ◌+◌, length};
 ghost use Rattle.ledger.specs.Tables.{rows_in};
 
-use super::table::Table;
+use crate::table::Table;
 use quota::Quota;
 
 mod calls;

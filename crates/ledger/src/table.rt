@@ -1,9 +1,9 @@
-ghost use Rattle.std.specs.Prelude.{◌≡◌, ◌<◌, ◌≤◌, [], ◌∷◌, ◌++◌, length, None};
-ghost use Rattle.std.specs.List.{slice_get, position};
+ghost use Rattle.std.specs.Prelude.{◌≡◌, ◌<◌, [], ◌∷◌, ◌++◌, length};
+ghost use Rattle.std.specs.List.{position};
 ghost use Rattle.ledger.specs.Rows.{live_row, marked, struck, has_serial};
 ghost use Rattle.ledger.specs.Tables.{rows_in};
 
-use super::row::{Row, RowMark};
+use crate::row::{Row, RowMark};
 use arrayvec::ArrayVec;
 use suite::KeyKind;
 
@@ -27,14 +27,6 @@ impl Table {
         ensures { result.now ≡ rows_in self.now }
     {
         self.rows.as_slice()
-    }
-
-    // The row at a place, or none past the rows.
-    pub(crate) fn row(&self, place: usize) -> Option<Row>
-        ensures row { result ≡ slice_get (rows_in self.now) place }
-        ensures past { 32 ≤ place → result ≡ None }
-    {
-        self.rows.as_slice().get(place).copied()
     }
 
     // Puts the row of a key that was just made past the others.

@@ -7,9 +7,9 @@ ghost use Rattle.quota.specs.AllowanceLaws.{limited-formed};
 ghost use Rattle.ledger.specs.Rows.{entered, struck_by, Told};
 ghost use Rattle.ledger.specs.Ledgers.{ledger_meaning, rows_of, StillTold};
 
-use super::super::row::Row;
-use super::super::table::Table;
 use super::Ledger;
+use crate::row::Row;
+use crate::table::Table;
 use quota::Quota;
 use suite::{Denial, KeyKind, KindNumbers, Suite};
 
@@ -47,7 +47,7 @@ impl<S: Suite> Ledger<S> {
         ensures row { result ≡ slice_get (rows_of self.now) place }
         ensures past { 32 ≤ place → result ≡ None }
     {
-        self.table.row(place)
+        self.rows().get(place).copied()
     }
 }
 
