@@ -1,3 +1,4 @@
 pub mod Ledgers
 pub mod Rows
 pub mod Tables
+pub mod Words

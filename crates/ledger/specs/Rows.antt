@@ -1,7 +1,8 @@
 -- The rows of a ledger: how a key's making enters one, how its destroying marks one, and what the rows tell of the keys.
-use Rattle.std.specs.Prelude.{◌≡◌, ℕ, ◌+◌, Bool, true, false, cond, not, List, [], ◌∷◌, ◌++◌, length, is_some, Ok, Err, Result, ◌==◌}
-use Rattle.std.specs.List.{prefix_len, AllByRecursion}
+use Rattle.std.specs.Prelude.{◌≡◌, ℕ, ◌+◌, Bool, true, false, cond, List, [], ◌∷◌, ◌++◌, length, is_some, Ok, Err, Result, ◌==◌}
+use Rattle.std.specs.List.{AllByRecursion}
 use Rattle.suite.specs.declared.types.KeyKind.{KeyKind}
+use Rattle.suite.specs.declared.types.KeyKind.TheVariants.{SharedSecret}
 use Rattle.suite.specs.declared.types.Denial.{Denial}
 use Rattle.suite.specs.Meanings.{Key, Meaning, value_in, is_live}
 use Rattle.ledger.specs.declared.row.RowMark.{RowMark}
@@ -12,6 +13,10 @@ use Rattle.ledger.specs.declared.row.Row.{Row}
 abbrev pub mark_number : RowMark → ℕ
 mark_number Live = 1
 mark_number Destroyed = 2
+
+-- the row of no key, which has no serial that a key can have
+abbrev pub unused_row : Row
+unused_row = record { serial = 0; kind = SharedSecret; mark = Destroyed }
 
 -- the row of a key that was just made
 abbrev pub live_row : ℕ → KeyKind → Row
@@ -26,13 +31,8 @@ abbrev pub struck : ℕ → List Row → List Row
 struck n [] = []
 struck n (r ∷ rs) = cond (r.serial == n) (marked r ∷ rs) (r ∷ struck n rs)
 
--- a row of another serial
-abbrev pub has_other : ℕ → Row → Bool
-has_other n r = not (r.serial == n)
-
--- the place of the row of a serial, or the number of rows
-abbrev pub place_of : ℕ → List Row → ℕ
-place_of n rows = prefix_len (has_other n) rows
+abbrev pub has_serial : ℕ → Row → Bool
+has_serial n r = r.serial == n
 
 -- the rows after a call that makes a key, by its answer: one more for the serial answered
 abbrev pub entered : KeyKind → Result ℕ Denial → List Row → List Row

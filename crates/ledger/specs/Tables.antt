@@ -1,8 +1,8 @@
 -- The rows that a table holds.
-use Rattle.std.specs.Prelude.{List, take}
+use Rattle.std.specs.Prelude.{List}
 use Rattle.ledger.specs.declared.row.Row.{Row}
 use Rattle.ledger.specs.declared.table.Table.{Table}
 
--- the rows at the used places, in their order
+-- the rows, in the order in which they were entered
 abbrev pub rows_in : Table → List Row
-rows_in t = take t.used t.rows
+rows_in t = t.rows.items

@@ -1,6 +1,7 @@
-ghost use Rattle.std.specs.Prelude.{◌≡◌, ◌+◌};
+ghost use Rattle.std.specs.Prelude.{◌≡◌, ◌+◌, length};
+ghost use Rattle.ledger.specs.Tables.{rows_in};
 
-use super::table::Table;
+use crate::table::Table;
 use quota::Quota;
 
 mod calls;
@@ -9,5 +10,5 @@ mod calls;
 pub struct Ledger<S> {
     below: Quota<S>,
     table: Table,
-    ghost unused: { below.left + table.used ≡ 32 },
+    ghost unused: { below.left + length (rows_in table) ≡ 32 },
 }

@@ -1,14 +1,68 @@
-ghost use Rattle.std.specs.Prelude.{◌≡◌, ◌≤◌, length};
+ghost use Rattle.std.specs.Prelude.{◌≡◌, ◌<◌, [], ◌∷◌, ◌++◌, length};
+ghost use Rattle.std.specs.List.{position};
+ghost use Rattle.ledger.specs.Rows.{live_row, marked, struck, has_serial};
+ghost use Rattle.ledger.specs.Tables.{rows_in};
 
-use super::row::Row;
+use crate::row::{Row, RowMark};
+use arrayvec::ArrayVec;
+use suite::KeyKind;
 
-mod edits;
-
-// A table of 32 places, used from the first on.
+// One row for each key that was made, of which there are at most 32.
 #[derive(Drop)]
 pub(crate) struct Table {
-    rows: [Row; 32],
-    used: usize,
-    ghost places: { length rows ≡ 32 },
-    ghost within: { used ≤ 32 },
+    rows: ArrayVec<Row, 32>,
+}
+
+impl Table {
+    pub(crate) fn new() -> Table
+        ensures { rows_in result ≡ [] }
+    {
+        Table {
+            rows: ArrayVec::new(),
+        }
+    }
+
+    // The rows, in the order in which they were entered.
+    pub(crate) fn rows(&self) -> &[Row]
+        ensures { result.now ≡ rows_in self.now }
+    {
+        self.rows.as_slice()
+    }
+
+    // Puts the row of a key that was just made past the others.
+    pub(crate) fn enter(&mut self, serial: u32, kind: KeyKind)
+        requires { length (rows_in self.old) < 32 }
+        ensures { rows_in self.new ≡ rows_in self.old ++ (live_row serial kind ∷ []) }
+    {
+        self.rows.push(Row {
+            serial,
+            kind,
+            mark: RowMark::Live,
+        });
+    }
+
+    // Marks the row of that serial, where there is one, and no other.
+    #[tactic(auto, using(crate::proofs::TableLaws::strikes))]
+    pub(crate) fn strike(&mut self, serial: u32)
+        ensures rows { rows_in self.new ≡ struck serial (rows_in self.old) }
+        ensures count { length (rows_in self.new) ≡ length (rows_in self.old) }
+    {
+        if let Some(place) = place_of(self.rows.as_slice(), serial) {
+            mark_destroyed(&mut self.rows[place]);
+        }
+    }
+}
+
+// Changes the one row that is lent.
+fn mark_destroyed(row: &mut Row)
+    ensures { row.new ≡ marked row.old }
+{
+    row.mark = RowMark::Destroyed;
+}
+
+// The place of the row of that serial.
+fn place_of(rows: &[Row], serial: u32) -> Option<usize>
+    ensures { result ≡ position (has_serial serial) rows.now }
+{
+    rows.iter().position(|row| row.serial == serial)
 }

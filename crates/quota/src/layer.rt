@@ -1,4 +1,4 @@
-ghost use Rattle.std.specs.Prelude.{◌≡◌, ◌+◌, min, length, replicate, is_some, Err};
+ghost use Rattle.std.specs.Prelude.{◌≡◌, ◌+◌, min, replicate, is_some, Err};
 ghost use Rattle.suite.specs.declared.types.KeyKind.TheVariants.{SharedSecret, LinkKey};
 ghost use Rattle.suite.specs.Meanings.{value_in};
 ghost use Rattle.suite.specs.Calls.{agreed, derived, serial_answer, after_making, destroy_answer, after_destroy};
@@ -36,7 +36,7 @@ impl<S: Suite> Quota<S> {
     fn agree_denial(&self, seed: &[u8], offer: &[u8], role: u8) -> Denial
         ensures { Err result ≡ agreed S.scheme (limited (S.meaning self.now.below) 0) seed.now offer.now role }
     {
-        if seed.len() != 16 || (role != Role::Sender.byte() && role != Role::Recipient.byte()) {
+        if seed.len() != 16 || Role::try_from(role).is_err() {
             Denial::Unfit
         } else if !self.is_fit(offer) {
             Denial::BadOffer
@@ -57,9 +57,9 @@ impl<S: Suite> Quota<S> {
         }
     }
 
-    // Whether a live shared secret has that serial: then, and only then, there is a check value of it. The scratch bytes are zeros after.
-    fn is_secret(&self, key: u32, scratch: &mut [u8]) -> bool
-        requires { length scratch.old ≡ 255 }
+    // Whether a live shared secret has that serial: then, and only then, there is a check value of it. The scratch bytes, zeros after,
+    // are lent because a contract cannot speak of a local.
+    fn is_secret(&self, key: u32, scratch: &mut [u8; 255]) -> bool
         ensures answer { result ≡ is_some (value_in (S.meaning self.now.below).live SharedSecret key) }
         ensures cleared { scratch.new ≡ replicate 255 0 }
     {
@@ -69,7 +69,9 @@ impl<S: Suite> Quota<S> {
     }
 }
 
-// Calls that change it also say what the suite below means after, and what is left of the allowance.
+// What changes nothing is handed down by hand: outside `suite` no impl of `Suite` may be for every layer alike.
+// What changes it repeats the trait's clauses, since clauses here stand in place of those, and says more: what the suite below means
+// after, and what is left of the allowance.
 impl<S: Suite> Suite for Quota<S> {
     ghost meaning = { quota_meaning S.meaning };
 
@@ -101,6 +103,7 @@ impl<S: Suite> Suite for Quota<S> {
         self.below.offer(seed, out)
     }
 
+    // One method for both calls that make a key, with the call below as a closure, needs four clauses to save four lines.
     fn agree(&mut self, seed: &[u8], offer: &[u8], role: u8) -> Result<u32, Denial>
         ensures answer { result ≡ serial_answer (quota_meaning S.meaning self.old) (agreed S.scheme (quota_meaning S.meaning self.old) seed.now offer.now role) }
         ensures after { quota_meaning S.meaning self.new ≡ after_making (quota_meaning S.meaning self.old) SharedSecret (agreed S.scheme (quota_meaning S.meaning self.old) seed.now offer.now role) }

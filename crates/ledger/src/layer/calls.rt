@@ -1,15 +1,15 @@
-ghost use Rattle.std.specs.Prelude.{◌≡◌, ℕ, ◌+◌, ◌≤◌, min, [], None};
+ghost use Rattle.std.specs.Prelude.{◌≡◌, ◌+◌, ◌≤◌, min, [], None};
 ghost use Rattle.std.specs.List.{slice_get};
 ghost use Rattle.suite.specs.declared.types.KeyKind.TheVariants.{SharedSecret, LinkKey};
 ghost use Rattle.suite.specs.Calls.{agreed, derived, serial_answer, after_making, destroy_answer, after_destroy};
 ghost use Rattle.quota.specs.Allowances.{with_last};
 ghost use Rattle.quota.specs.AllowanceLaws.{limited-formed};
 ghost use Rattle.ledger.specs.Rows.{entered, struck_by, Told};
-ghost use Rattle.ledger.specs.Ledgers.{ledger_meaning, rows_of};
+ghost use Rattle.ledger.specs.Ledgers.{ledger_meaning, rows_of, StillTold};
 
-use super::super::row::Row;
-use super::super::table::Table;
 use super::Ledger;
+use crate::row::Row;
+use crate::table::Table;
 use quota::Quota;
 use suite::{Denial, KeyKind, KindNumbers, Suite};
 
@@ -35,16 +35,25 @@ impl<S: Suite> Ledger<S> {
         below.into_below()
     }
 
+    // All rows, one for each key that was made through the ledger, in the order made.
+    pub fn rows(&self) -> &[Row]
+        ensures { result.now ≡ rows_of self.now }
+    {
+        self.table.rows()
+    }
+
     // The row at a place, from 0 on; none at an unused place or past the table.
     pub fn row(&self, place: usize) -> Option<Row>
         ensures row { result ≡ slice_get (rows_of self.now) place }
         ensures past { 32 ≤ place → result ≡ None }
     {
-        self.table.row(place)
+        self.rows().get(place).copied()
     }
 }
 
-// Calls that change it also say what the suite below means after, and what the rows are; and that the rows still tell of the keys.
+// What changes nothing is handed down by hand: outside `suite` no impl of `Suite` may be for every layer alike.
+// What changes it repeats the trait's clauses, since clauses here stand in place of those, and says more: what the suite below means
+// after, what the rows are, and that they still tell of the keys.
 impl<S: Suite> Suite for Ledger<S> {
     ghost meaning = { ledger_meaning S.meaning };
 
@@ -74,12 +83,13 @@ impl<S: Suite> Suite for Ledger<S> {
         self.below.offer(seed, out)
     }
 
+    // One method for both calls that make a key, with the call below as a closure, needs four clauses and a longer proof to save four lines.
     fn agree(&mut self, seed: &[u8], offer: &[u8], role: u8) -> Result<u32, Denial>
         ensures answer { result ≡ serial_answer (ledger_meaning S.meaning self.old) (agreed S.scheme (ledger_meaning S.meaning self.old) seed.now offer.now role) }
         ensures after { ledger_meaning S.meaning self.new ≡ after_making (ledger_meaning S.meaning self.old) SharedSecret (agreed S.scheme (ledger_meaning S.meaning self.old) seed.now offer.now role) }
         ensures below { S.meaning self.new.below.below ≡ after_making (S.meaning self.old.below.below) SharedSecret (agreed S.scheme (ledger_meaning S.meaning self.old) seed.now offer.now role) }
         ensures rows { rows_of self.new ≡ entered SharedSecret result (rows_of self.old) }
-        ensures told { (start : ℕ) → Told start (ledger_meaning S.meaning self.old) (rows_of self.old) → Told start (ledger_meaning S.meaning self.new) (rows_of self.new) }
+        ensures told { StillTold S.meaning self.old self.new }
     {
         let serial = self.below.agree(seed, offer, role)?;
         self.table.enter(serial, KeyKind::SharedSecret);
@@ -91,7 +101,7 @@ impl<S: Suite> Suite for Ledger<S> {
         ensures after { ledger_meaning S.meaning self.new ≡ after_making (ledger_meaning S.meaning self.old) LinkKey (derived S.scheme (ledger_meaning S.meaning self.old) key) }
         ensures below { S.meaning self.new.below.below ≡ after_making (S.meaning self.old.below.below) LinkKey (derived S.scheme (ledger_meaning S.meaning self.old) key) }
         ensures rows { rows_of self.new ≡ entered LinkKey result (rows_of self.old) }
-        ensures told { (start : ℕ) → Told start (ledger_meaning S.meaning self.old) (rows_of self.old) → Told start (ledger_meaning S.meaning self.new) (rows_of self.new) }
+        ensures told { StillTold S.meaning self.old self.new }
     {
         let serial = self.below.derive(key)?;
         self.table.enter(serial, KeyKind::LinkKey);
@@ -131,7 +141,7 @@ impl<S: Suite> Suite for Ledger<S> {
         ensures after { ledger_meaning S.meaning self.new ≡ after_destroy (ledger_meaning S.meaning self.old) key }
         ensures below { S.meaning self.new.below.below ≡ after_destroy (S.meaning self.old.below.below) key }
         ensures rows { rows_of self.new ≡ struck_by key result (rows_of self.old) }
-        ensures told { (start : ℕ) → Told start (ledger_meaning S.meaning self.old) (rows_of self.old) → Told start (ledger_meaning S.meaning self.new) (rows_of self.new) }
+        ensures told { StillTold S.meaning self.old self.new }
     {
         self.below.destroy(key)?;
         self.table.strike(key);

@@ -3,8 +3,5 @@ use Rattle.std.proofs.Common.{rules}
 use Rattle.ledger.proofs.RowLaws.{made_kept}
 use Rattle.ledger.proofs.layer.calls.LedgerSuite.derive.Goals as goal
 
-pub returns : goal.returns
-returns g c = let p = c.in_ok-serial.ensures in search (rules, made_kept)
-
-pub returns-in_err-serial : goal.returns-in_err-serial
-returns-in_err-serial g c = search (rules, made_kept)
+pub returns-clause-told : goal.returns-clause-told
+returns-clause-told g c = let p = c.in_ok-serial.ensures in search (rules, made_kept)
