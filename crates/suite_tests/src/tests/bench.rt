@@ -9,10 +9,10 @@ use suite::{Denial, KeyKind, Suite};
 fn offers(rt: HostRuntime) {
     let mut suite = Bench::new(ROOT);
     let calls = Calls::on(&rt, &mut suite);
-    calls.offer(&[1; 15], &mut [0; 255], Err(Denial::Unfit));
-    calls.offer(&[1; 17], &mut [0; 255], Err(Denial::Unfit));
-    calls.offer(&[1; 16], &mut [0; 254], Err(Denial::Unfit));
-    calls.offer(&[1; 16], &mut [0; 255], Ok(16));
+    calls.offer(15, 255, Err(Denial::Unfit));
+    calls.offer(17, 255, Err(Denial::Unfit));
+    calls.offer(16, 254, Err(Denial::Unfit));
+    calls.offer(16, 255, Ok(16));
     assert_eq!(rt; suite.close(), ROOT);
 }
 
@@ -20,15 +20,15 @@ fn offers(rt: HostRuntime) {
 fn agreements(rt: HostRuntime) {
     let mut suite = Bench::new(ROOT);
     let mut calls = Calls::on(&rt, &mut suite);
-    calls.agree(&[1; 15], &[2; 16], SENDER, Err(Denial::Unfit));
-    calls.agree(&[1; 17], &[2; 16], SENDER, Err(Denial::Unfit));
-    calls.agree(&[1; 16], &[2; 16], 0, Err(Denial::Unfit));
-    calls.agree(&[1; 16], &[2; 16], 3, Err(Denial::Unfit));
-    calls.agree(&[1; 16], &[2; 15], SENDER, Err(Denial::BadOffer));
-    calls.agree(&[1; 16], &[2; 17], SENDER, Err(Denial::BadOffer));
-    calls.agree(&[1; 16], &[2; 16], SENDER, Ok(1));
-    calls.agree(&[1; 16], &[2; 16], RECIPIENT, Ok(2));
-    calls.agree(&[1; 16], &[2; 16], SENDER, Err(Denial::Spent));
+    calls.agree(15, 16, SENDER, Err(Denial::Unfit));
+    calls.agree(17, 16, SENDER, Err(Denial::Unfit));
+    calls.agree(16, 16, 0, Err(Denial::Unfit));
+    calls.agree(16, 16, 3, Err(Denial::Unfit));
+    calls.agree(16, 15, SENDER, Err(Denial::BadOffer));
+    calls.agree(16, 17, SENDER, Err(Denial::BadOffer));
+    calls.agree(16, 16, SENDER, Ok(1));
+    calls.agree(16, 16, RECIPIENT, Ok(2));
+    calls.agree(16, 16, SENDER, Err(Denial::Spent));
     assert_eq!(rt; suite.close(), ROOT);
 }
 
@@ -37,14 +37,14 @@ fn keys(rt: HostRuntime) {
     let mut suite = Bench::new(ROOT);
     let mut calls = Calls::on(&rt, &mut suite);
     calls.derive(1, Err(Denial::Unknown));
-    calls.agree(&[1; 16], &[2; 16], SENDER, Ok(1));
+    calls.agree(16, 16, SENDER, Ok(1));
     calls.derive(1, Ok(2));
     calls.derive(1, Err(Denial::Spent));
     calls.derive(2, Err(Denial::Unknown));
     calls.destroy(3, Err(Denial::Unknown));
     calls.destroy(1, Ok(()));
     calls.destroy(1, Err(Denial::Unknown));
-    calls.agree(&[1; 16], &[2; 16], RECIPIENT, Ok(3));
+    calls.agree(16, 16, RECIPIENT, Ok(3));
     calls.destroy(2, Ok(()));
     assert_eq!(rt; suite.close(), ROOT);
 }
@@ -53,15 +53,15 @@ fn keys(rt: HostRuntime) {
 fn secrets(rt: HostRuntime) {
     let mut suite = Bench::new(ROOT);
     let mut calls = Calls::on(&rt, &mut suite);
-    calls.agree(&[1; 16], &[2; 16], SENDER, Ok(1));
-    calls.check(1, 0, &mut [0; 255], Err(Denial::Unfit));
-    calls.check(1, 3, &mut [0; 255], Err(Denial::Unfit));
-    calls.check(1, SENDER, &mut [0; 254], Err(Denial::Unfit));
-    calls.check(2, SENDER, &mut [0; 255], Err(Denial::Unknown));
-    calls.check(1, SENDER, &mut [0; 255], Ok(4));
-    calls.reveal(1, &mut [0; 15], Err(Denial::Unfit));
-    calls.reveal(2, &mut [0; 16], Err(Denial::Unknown));
-    calls.reveal(1, &mut [0; 16], Ok(16));
+    calls.agree(16, 16, SENDER, Ok(1));
+    calls.check(1, 0, 255, Err(Denial::Unfit));
+    calls.check(1, 3, 255, Err(Denial::Unfit));
+    calls.check(1, SENDER, 254, Err(Denial::Unfit));
+    calls.check(2, SENDER, 255, Err(Denial::Unknown));
+    calls.check(1, SENDER, 255, Ok(4));
+    calls.reveal(1, 15, Err(Denial::Unfit));
+    calls.reveal(2, 16, Err(Denial::Unknown));
+    calls.reveal(1, 16, Ok(16));
     assert_eq!(rt; suite.close(), ROOT);
 }
 
@@ -69,27 +69,20 @@ fn secrets(rt: HostRuntime) {
 fn records(rt: HostRuntime) {
     let mut suite = Bench::new(ROOT);
     let mut calls = Calls::on(&rt, &mut suite);
-    calls.agree(&[1; 16], &[2; 16], SENDER, Ok(1));
+    calls.agree(16, 16, SENDER, Ok(1));
     calls.derive(1, Ok(2));
-    calls.seal(2, 0, 0, &[4], &mut [0; 255], Err(Denial::Unfit));
-    calls.seal(2, 3, 0, &[4], &mut [0; 255], Err(Denial::Unfit));
-    calls.seal(2, SENDER, 0, &[4; 201], &mut [0; 255], Err(Denial::Unfit));
-    calls.seal(
-        2,
-        SENDER,
-        16_777_216,
-        &[4],
-        &mut [0; 255],
-        Err(Denial::Unfit),
-    );
-    calls.seal(2, SENDER, 0, &[4], &mut [0; 254], Err(Denial::Unfit));
-    calls.seal(1, SENDER, 0, &[4], &mut [0; 255], Err(Denial::Unknown));
-    calls.seal(2, SENDER, 16_777_215, &[4; 200], &mut [0; 255], Ok(206));
-    calls.seal(2, RECIPIENT, 0, &[], &mut [0; 255], Ok(6));
-    calls.open(2, &[0; 255], &mut [0; 255], Err(Denial::Unfit));
-    calls.open(2, &[0; 254], &mut [0; 254], Err(Denial::Unfit));
-    calls.open(1, &[0; 254], &mut [0; 255], Err(Denial::Unknown));
-    calls.open(2, &[0; 254], &mut [0; 255], Ok(None));
+    calls.seal(2, 0, 0, 1, 255, Err(Denial::Unfit));
+    calls.seal(2, 3, 0, 1, 255, Err(Denial::Unfit));
+    calls.seal(2, SENDER, 0, 201, 255, Err(Denial::Unfit));
+    calls.seal(2, SENDER, 16_777_216, 1, 255, Err(Denial::Unfit));
+    calls.seal(2, SENDER, 0, 1, 254, Err(Denial::Unfit));
+    calls.seal(1, SENDER, 0, 1, 255, Err(Denial::Unknown));
+    calls.seal(2, SENDER, 16_777_215, 200, 255, Ok(206));
+    calls.seal(2, RECIPIENT, 0, 0, 255, Ok(6));
+    calls.open(2, 255, 255, Err(Denial::Unfit));
+    calls.open(2, 254, 254, Err(Denial::Unfit));
+    calls.open(1, 254, 255, Err(Denial::Unknown));
+    calls.open(2, 254, 255, Ok(None));
     assert_eq!(rt; suite.close(), ROOT);
 }
 
@@ -97,19 +90,16 @@ fn records(rt: HostRuntime) {
 #[test]
 fn numbers(rt: HostRuntime) {
     let suite = Bench::new(ROOT);
+    let fit = [
+        suite.is_fit(&[2; 15]),
+        suite.is_fit(&[2; 16]),
+        suite.is_fit(&[2; 17]),
+    ];
+    let serials = (suite.newest_serial(), suite.last_serial());
     assert_eq!(rt;
-        [
-            suite.is_fit(&[2; 15]),
-            suite.is_fit(&[2; 16]),
-            suite.is_fit(&[2; 17])
-        ],
-        [false, true, false]
+        (suite.close(), fit, serials),
+        (ROOT, [false, true, false], (0, 4_294_967_295))
     );
-    assert_eq!(rt;
-        (suite.newest_serial(), suite.last_serial()),
-        (0, 4_294_967_295)
-    );
-    assert_eq!(rt; suite.close(), ROOT);
     let n = Bench::numbers();
     assert_eq!(rt; (n.pid, n.first_number, n.last_number), (0xF0, 0, 65_535));
     assert_eq!(rt; (n.offer_length, n.check_length, n.overhead), (16, 4, 6));
@@ -199,8 +189,8 @@ fn exchange(rt: HostRuntime) {
 #[test]
 fn closes(rt: HostRuntime) {
     let mut suite = Bench::new(ROOT);
-    assert_eq!(rt; suite.agree(&[1; 16], &[2; 16], SENDER), Ok(1));
-    assert_eq!(rt; suite.close(), ROOT);
+    let agreed = suite.agree(&[1; 16], &[2; 16], SENDER);
+    assert_eq!(rt; (agreed, suite.close()), (Ok(1), ROOT));
 }
 
 // Ends a store, and answers whether a key was still live in it.

@@ -1,4 +1,5 @@
-// Calls on any suite, each compared with the answer that it must get.
+// Calls on any suite, by the lengths of their slices, each compared with the answer that it must get.
+use std::fmt::Debug;
 use std::process::Abort;
 use suite::{Denial, Role, Suite};
 
@@ -8,7 +9,17 @@ pub const SENDER: u8 = Role::Sender as u8;
 
 pub const RECIPIENT: u8 = Role::Recipient as u8;
 
-// A suite that is called. The methods tell their callers nothing, so that tests of many calls are checked quickly.
+const MOST: usize = 300;
+
+fn part(bytes: &[u8; MOST], length: usize) -> &[u8] {
+    &bytes[..length.min(MOST)]
+}
+
+fn room(bytes: &mut [u8; MOST], length: usize) -> &mut [u8] {
+    &mut bytes[..length.min(MOST)]
+}
+
+// A suite that is called. These methods have no clauses, and assert in one place: so a test of many calls is checked quickly.
 #[derive(Drop)]
 pub struct Calls<'a, R, S> {
     rt: &'a R,
@@ -20,24 +31,38 @@ impl<'a, R: Abort, S: Suite> Calls<'a, R, S> {
         Calls { rt, suite }
     }
 
-    pub fn offer(&self, seed: &[u8], out: &mut [u8], answer: Result<usize, Denial>) {
-        assert_eq!(self.rt; self.suite.offer(seed, out), answer);
+    fn is<T: PartialEq + Debug + Drop>(&self, made: T, wanted: T) {
+        assert_eq!(self.rt; made, wanted);
     }
 
-    pub fn agree(&mut self, seed: &[u8], offer: &[u8], role: u8, answer: Result<u32, Denial>) {
-        assert_eq!(self.rt; self.suite.agree(seed, offer, role), answer);
+    pub fn offer(&self, seed: usize, out: usize, wanted: Result<usize, Denial>) {
+        let made = self
+            .suite
+            .offer(part(&[1; MOST], seed), room(&mut [0; MOST], out));
+        self.is(made, wanted);
     }
 
-    pub fn derive(&mut self, key: u32, answer: Result<u32, Denial>) {
-        assert_eq!(self.rt; self.suite.derive(key), answer);
+    pub fn agree(&mut self, seed: usize, offer: usize, role: u8, wanted: Result<u32, Denial>) {
+        let made = self
+            .suite
+            .agree(part(&[1; MOST], seed), part(&[2; MOST], offer), role);
+        self.is(made, wanted);
     }
 
-    pub fn check(&self, key: u32, role: u8, out: &mut [u8], answer: Result<usize, Denial>) {
-        assert_eq!(self.rt; self.suite.check(key, role, out), answer);
+    pub fn derive(&mut self, key: u32, wanted: Result<u32, Denial>) {
+        let made = self.suite.derive(key);
+        self.is(made, wanted);
     }
 
-    pub fn reveal(&self, key: u32, out: &mut [u8], answer: Result<usize, Denial>) {
-        assert_eq!(self.rt; self.suite.reveal(key, out), answer);
+    pub fn check(&self, key: u32, role: u8, out: usize, wanted: Result<usize, Denial>) {
+        self.is(
+            self.suite.check(key, role, room(&mut [0; MOST], out)),
+            wanted,
+        );
+    }
+
+    pub fn reveal(&self, key: u32, out: usize, wanted: Result<usize, Denial>) {
+        self.is(self.suite.reveal(key, room(&mut [0; MOST], out)), wanted);
     }
 
     pub fn seal(
@@ -45,24 +70,31 @@ impl<'a, R: Abort, S: Suite> Calls<'a, R, S> {
         key: u32,
         role: u8,
         number: u32,
-        plain: &[u8],
-        out: &mut [u8],
-        answer: Result<usize, Denial>,
+        plain: usize,
+        out: usize,
+        wanted: Result<usize, Denial>,
     ) {
-        assert_eq!(self.rt; self.suite.seal(key, role, number, plain, out), answer);
+        let plain = part(&[4; MOST], plain);
+        let made = self
+            .suite
+            .seal(key, role, number, plain, room(&mut [0; MOST], out));
+        self.is(made, wanted);
     }
 
     pub fn open(
         &self,
         key: u32,
-        payload: &[u8],
-        out: &mut [u8],
-        answer: Result<Option<(u8, u32, usize)>, Denial>,
+        payload: usize,
+        out: usize,
+        wanted: Result<Option<(u8, u32, usize)>, Denial>,
     ) {
-        assert_eq!(self.rt; self.suite.open(key, payload, out), answer);
+        let payload = part(&[0; MOST], payload);
+        let made = self.suite.open(key, payload, room(&mut [0; MOST], out));
+        self.is(made, wanted);
     }
 
-    pub fn destroy(&mut self, key: u32, answer: Result<(), Denial>) {
-        assert_eq!(self.rt; self.suite.destroy(key), answer);
+    pub fn destroy(&mut self, key: u32, wanted: Result<(), Denial>) {
+        let made = self.suite.destroy(key);
+        self.is(made, wanted);
     }
 }

@@ -10,10 +10,10 @@ fn quota_of_none(rt: HostRuntime) {
     let mut suite = Quota::new(Bench::new(ROOT), 0);
     assert_eq!(rt; suite.last_serial(), 0);
     let mut calls = Calls::on(&rt, &mut suite);
-    calls.agree(&[1; 15], &[2; 16], SENDER, Err(Denial::Unfit));
-    calls.agree(&[1; 16], &[2; 16], 3, Err(Denial::Unfit));
-    calls.agree(&[1; 16], &[2; 15], SENDER, Err(Denial::BadOffer));
-    calls.agree(&[1; 16], &[2; 16], SENDER, Err(Denial::Spent));
+    calls.agree(15, 16, SENDER, Err(Denial::Unfit));
+    calls.agree(16, 16, 3, Err(Denial::Unfit));
+    calls.agree(16, 15, SENDER, Err(Denial::BadOffer));
+    calls.agree(16, 16, SENDER, Err(Denial::Spent));
     calls.derive(1, Err(Denial::Unknown));
     assert_eq!(rt; suite.last_serial(), 0);
     let _root = suite.into_below().close();
@@ -24,12 +24,12 @@ fn quota_of_one(rt: HostRuntime) {
     let mut suite = Quota::new(Bench::new(ROOT), 1);
     assert_eq!(rt; suite.last_serial(), 1);
     let mut calls = Calls::on(&rt, &mut suite);
-    calls.agree(&[1; 16], &[2; 16], SENDER, Ok(1));
+    calls.agree(16, 16, SENDER, Ok(1));
     calls.derive(2, Err(Denial::Unknown));
     calls.derive(1, Err(Denial::Spent));
-    calls.check(1, SENDER, &mut [0; 255], Ok(4));
+    calls.check(1, SENDER, 255, Ok(4));
     calls.destroy(1, Ok(()));
-    calls.agree(&[1; 16], &[2; 16], SENDER, Err(Denial::Spent));
+    calls.agree(16, 16, SENDER, Err(Denial::Spent));
     assert_eq!(rt; suite.last_serial(), 1);
     let _root = suite.into_below().close();
 }
@@ -38,52 +38,43 @@ fn quota_of_one(rt: HostRuntime) {
 #[test]
 fn quota_at_the_top(rt: HostRuntime) {
     let mut below = Bench::new(ROOT);
-    assert_eq!(rt; below.agree(&[1; 16], &[2; 16], SENDER), Ok(1));
+    let secret = below.agree(&[1; 16], &[2; 16], SENDER);
     let mut suite = Quota::new(below, u32::MAX);
-    assert_eq!(rt; suite.last_serial(), u32::MAX);
-    assert_eq!(rt; suite.derive(1), Ok(2));
-    assert_eq!(rt; suite.last_serial(), u32::MAX);
+    let last = suite.last_serial();
+    let link = suite.derive(1);
+    assert_eq!(rt; (secret, link), (Ok(1), Ok(2)));
+    assert_eq!(rt; (last, suite.last_serial()), (u32::MAX, u32::MAX));
     let _root = suite.into_below().close();
 }
 
-// The row of a first key, the shared secret of an agreement.
-const SECRET: Row = Row {
-    serial: 1,
-    kind: KeyKind::SharedSecret,
-    mark: RowMark::Live,
-};
+fn live_secret(serial: u32) -> Row {
+    Row {
+        serial,
+        kind: KeyKind::SharedSecret,
+        mark: RowMark::Live,
+    }
+}
 
 // The secret made before the ledger was put over has no row.
 #[test]
 fn ledger_rows(rt: HostRuntime) {
     let mut below = Bench::new(ROOT);
-    assert_eq!(rt; below.agree(&[1; 16], &[2; 16], SENDER), Ok(1));
+    let _ = below.agree(&[1; 16], &[2; 16], SENDER);
     let mut suite = Ledger::new(below);
     let mut calls = Calls::on(&rt, &mut suite);
     calls.derive(1, Ok(2));
     calls.destroy(1, Ok(()));
-    calls.agree(&[1; 16], &[2; 16], RECIPIENT, Ok(3));
+    calls.agree(16, 16, RECIPIENT, Ok(3));
     calls.destroy(2, Ok(()));
     let link = Row {
         serial: 2,
         kind: KeyKind::LinkKey,
         mark: RowMark::Destroyed,
     };
-    let secret = Row {
-        serial: 3,
-        ..SECRET
-    };
+    let secret = live_secret(3);
     assert_eq!(rt; suite.rows(), [link, secret].as_slice());
-    assert_eq!(rt;
-        [
-            suite.row(0),
-            suite.row(1),
-            suite.row(2),
-            suite.row(31),
-            suite.row(32)
-        ],
-        [Some(link), Some(secret), None, None, None]
-    );
+    let rows = [0, 1, 2, 31, 32].map(|place| suite.row(place));
+    assert_eq!(rt; rows, [Some(link), Some(secret), None, None, None]);
     assert_eq!(rt; suite.last_serial(), 33);
     let _root = suite.into_below().close();
 }
@@ -91,17 +82,19 @@ fn ledger_rows(rt: HostRuntime) {
 #[test]
 fn ledger_over_quota(rt: HostRuntime) {
     let suite = Ledger::new(Quota::new(Bench::new(ROOT), 40));
-    assert_eq!(rt; suite.last_serial(), 32);
-    assert_eq!(rt; suite.into_below().into_below().close(), ROOT);
+    let last = suite.last_serial();
+    let root = suite.into_below().into_below().close();
+    assert_eq!(rt; (last, root), (32, ROOT));
 }
 
 #[test]
 fn quota_over_ledger(rt: HostRuntime) {
     let mut suite = Quota::new(Ledger::new(Bench::new(ROOT)), 1);
-    assert_eq!(rt; suite.last_serial(), 1);
-    assert_eq!(rt; suite.agree(&[1; 16], &[2; 16], SENDER), Ok(1));
-    assert_eq!(rt; suite.derive(1), Err(Denial::Spent));
+    let last = suite.last_serial();
+    let answers = [suite.agree(&[1; 16], &[2; 16], SENDER), suite.derive(1)];
     let ledger = suite.into_below();
-    assert_eq!(rt; ledger.row(0), Some(SECRET));
-    assert_eq!(rt; ledger.into_below().close(), ROOT);
+    let row = ledger.row(0);
+    let root = ledger.into_below().close();
+    assert_eq!(rt; answers, [Ok(1), Err(Denial::Spent)]);
+    assert_eq!(rt; (last, row, root), (1, Some(live_secret(1)), ROOT));
 }

@@ -3,38 +3,14 @@ use ledger::RowMark;
 use suite::{Denial, KeyKind, Role};
 
 #[test]
-fn roles(rt: HostRuntime) {
-    assert_eq!(rt; (Role::Sender.byte(), Role::Recipient.byte()), (1, 2));
+fn numbers(rt: HostRuntime) {
+    let roles = [Role::Sender.byte(), Role::Recipient.byte()];
+    let kinds = [KeyKind::SharedSecret.number(), KeyKind::LinkKey.number()];
+    let faults = [Denial::BadOffer.number(), Denial::Spent.number()];
+    let others = [Denial::Unfit.number(), Denial::Unknown.number()];
+    let marks = [RowMark::Live.number(), RowMark::Destroyed.number()];
     assert_eq!(rt;
-        [
-            Role::try_from(0),
-            Role::try_from(1),
-            Role::try_from(2),
-            Role::try_from(3)
-        ],
-        [
-            Err(Denial::Unfit),
-            Ok(Role::Sender),
-            Ok(Role::Recipient),
-            Err(Denial::Unfit)
-        ]
+        [roles, kinds, faults, others, marks],
+        [[1, 2], [1, 2], [2, 3], [8, 9], [1, 2]]
     );
-}
-
-#[test]
-fn kinds_and_marks(rt: HostRuntime) {
-    assert_eq!(rt;
-        (KeyKind::SharedSecret.number(), KeyKind::LinkKey.number()),
-        (1, 2)
-    );
-    assert_eq!(rt;
-        (RowMark::Live.number(), RowMark::Destroyed.number()),
-        (1, 2)
-    );
-}
-
-#[test]
-fn denials(rt: HostRuntime) {
-    assert_eq!(rt; (Denial::BadOffer.number(), Denial::Spent.number()), (2, 3));
-    assert_eq!(rt; (Denial::Unfit.number(), Denial::Unknown.number()), (8, 9));
 }
