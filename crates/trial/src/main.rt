@@ -1,38 +1,35 @@
 // Suites at work: two peers agree, verify, protect one dosing record and destroy their keys; then the same through layers.
 #![tactic(auto)]
 
+mod peer;
 mod session;
-mod shown;
+mod stopped;
 
 use bench_suite::Bench;
-use ledger::{Ledger, RowMark};
+use ledger::Ledger;
+use peer::Peer;
 use quota::Quota;
-use session::{agree, hand_over_one_record};
-use shown::{Stopped, kind_name, report};
+use session::hand_over_one_record;
+use stopped::{Stopped, report};
 use suite::{Role, Suite};
 
 const ROOT: [u8; 16] = [0; 16];
 
 fn bare(rt: &HostRuntime) -> Result<(), Stopped> {
     println!(rt; "Two bench suites")?;
-    let mut sender = Bench::new(ROOT);
-    let mut recipient = Bench::new(ROOT);
-    let result = hand_over_one_record(rt, &mut sender, &mut recipient);
-    let _roots = (sender.close(), recipient.close());
+    let mut sender = Peer::new(rt, Role::Sender, Bench::new(ROOT));
+    let mut recipient = Peer::new(rt, Role::Recipient, Bench::new(ROOT));
+    let result = hand_over_one_record(&mut sender, &mut recipient);
+    let _roots = (sender.into_suite().close(), recipient.into_suite().close());
     result
 }
 
 fn show_rows<S: Suite>(rt: &HostRuntime, ledger: &Ledger<S>) -> Result<(), Stopped> {
-    for place in 0..32 {
-        if let Some(row) = ledger.row(place) {
-            let serial = row.serial;
-            let kind = kind_name(row.kind);
-            let mark = match row.mark {
-                RowMark::Live => "live",
-                RowMark::Destroyed => "destroyed",
-            };
-            println!(rt; "  ledger row {place}: serial {serial}, {kind}, {mark}")?;
-        }
+    for (place, row) in ledger.rows().iter().enumerate() {
+        println!(rt;
+            "  ledger row {place}: serial {}, {}, {}",
+            row.serial, row.kind, row.mark
+        )?;
     }
     Ok(())
 }
@@ -40,29 +37,28 @@ fn show_rows<S: Suite>(rt: &HostRuntime, ledger: &Ledger<S>) -> Result<(), Stopp
 // One session uses up the quota of two keys, so the next agreement is denied.
 fn session_and_more<S: Suite, T: Suite>(
     rt: &HostRuntime,
-    sender: &mut Ledger<S>,
-    recipient: &mut T,
+    sender: &mut Peer<Ledger<S>>,
+    recipient: &mut Peer<T>,
 ) -> Result<(), Stopped> {
-    hand_over_one_record(rt, sender, recipient)?;
-    match agree(rt, sender, Role::Sender, &[2; 16]) {
-        Ok(_serial) => {}
-        Err(stopped) => report(rt, Err(stopped))?,
-    }
-    show_rows(rt, sender)
+    hand_over_one_record(sender, recipient)?;
+    report(rt, sender.agree(&[2; 16]))?;
+    show_rows(rt, sender.suite())
 }
 
 fn layered(rt: &HostRuntime) -> Result<(), Stopped> {
     println!(rt; "The Sender's suite under a quota of two keys, and a ledger over that")?;
-    let mut sender = Ledger::new(Quota::new(Bench::new(ROOT), 2));
-    let mut recipient = Bench::new(ROOT);
+    let suite = Ledger::new(Quota::new(Bench::new(ROOT), 2));
+    let mut sender = Peer::new(rt, Role::Sender, suite);
+    let mut recipient = Peer::new(rt, Role::Recipient, Bench::new(ROOT));
     let result = session_and_more(rt, &mut sender, &mut recipient);
-    let _roots = (sender.into_below().into_below().close(), recipient.close());
+    let _roots = (
+        sender.into_suite().into_below().into_below().close(),
+        recipient.into_suite().close(),
+    );
     result
 }
 
 fn main(rt: HostRuntime) -> Result<(), Stopped> {
-    let first = bare(&rt);
-    report(&rt, first)?;
-    let second = layered(&rt);
-    report(&rt, second)
+    report(&rt, bare(&rt))?;
+    report(&rt, layered(&rt))
 }

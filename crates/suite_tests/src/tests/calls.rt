@@ -1,90 +1,100 @@
-// Calls on any suite by the lengths of their slices, with the answers that they must get.
+// Calls on any suite, by the lengths of their slices, each compared with the answer that it must get.
+use std::fmt::Debug;
 use std::process::Abort;
-use std::test::Fail;
-use suite::{Denial, Suite};
+use suite::{Denial, Role, Suite};
 
-pub const SENDER: u8 = 1;
+pub const ROOT: [u8; 16] = [7; 16];
 
-pub const RECIPIENT: u8 = 2;
+pub const SENDER: u8 = Role::Sender as u8;
 
-pub const BAD_OFFER: u8 = 2;
+pub const RECIPIENT: u8 = Role::Recipient as u8;
 
-pub const SPENT: u8 = 3;
+const MOST: usize = 300;
 
-pub const UNFIT: u8 = 8;
-
-pub const UNKNOWN: u8 = 9;
-
-// A call, by the lengths of its slices, the last of which is the buffer's.
-#[derive(Clone, Copy)]
-pub enum Call {
-    Offer(usize, usize),
-    Agree(usize, usize, u8),
-    Derive(u32),
-    Check(u32, u8, usize),
-    Reveal(u32, usize),
-    Seal(u32, u8, u32, usize, usize),
-    Open(u32, usize, usize),
-    Destroy(u32),
+fn part(bytes: &[u8; MOST], length: usize) -> &[u8] {
+    &bytes[..length.min(MOST)]
 }
 
-// A call with its answer: a length, a serial or 0, or the number of a denial.
-#[derive(Clone, Copy)]
-pub struct Row(pub Call, pub Result<usize, u8>);
+fn room(bytes: &mut [u8; MOST], length: usize) -> &mut [u8] {
+    &mut bytes[..length.min(MOST)]
+}
 
-// An answer with the number of its denial, to compare.
-pub fn told<T>(answer: Result<T, Denial>) -> Result<T, u8> {
-    match answer {
-        Ok(value) => Ok(value),
-        Err(denial) => Err(denial.number()),
+// A suite that is called. These methods have no clauses, and assert in one place: so a test of many calls is checked quickly.
+#[derive(Drop)]
+pub struct Calls<'a, R, S> {
+    rt: &'a R,
+    suite: &'a mut S,
+}
+
+impl<'a, R: Abort, S: Suite> Calls<'a, R, S> {
+    pub fn on(rt: &'a R, suite: &'a mut S) -> Calls<'a, R, S> {
+        Calls { rt, suite }
     }
-}
 
-fn serial(answer: Result<u32, Denial>) -> Result<usize, u8> {
-    Ok(told(answer)? as usize)
-}
-
-fn made<S: Suite>(suite: &mut S, call: Call) -> Result<usize, u8> {
-    let mut out = [0; 300];
-    match call {
-        Call::Offer(seed, room) => told(suite.offer(
-            &[1; 300][0..seed.min(300)],
-            &mut out[0..room.min(300)],
-        )),
-        Call::Agree(seed, offer, role) => serial(suite.agree(
-            &[1; 300][0..seed.min(300)],
-            &[2; 300][0..offer.min(300)],
-            role,
-        )),
-        Call::Derive(key) => serial(suite.derive(key)),
-        Call::Check(key, role, room) => told(suite.check(key, role, &mut out[0..room.min(300)])),
-        Call::Reveal(key, room) => told(suite.reveal(key, &mut out[0..room.min(300)])),
-        Call::Seal(key, role, number, plain, room) => told(suite.seal(
-            key,
-            role,
-            number,
-            &[4; 300][0..plain.min(300)],
-            &mut out[0..room.min(300)],
-        )),
-        Call::Open(key, payload, room) => match told(suite.open(
-            key,
-            &[0; 300][0..payload.min(300)],
-            &mut out[0..room.min(300)],
-        ))? {
-            Some((_, _, n)) => Ok(n),
-            None => Ok(0),
-        },
-        Call::Destroy(key) => match told(suite.destroy(key)) {
-            Ok(()) => Ok(0),
-            Err(number) => Err(number),
-        },
+    fn is<T: PartialEq + Debug + Drop>(&self, made: T, wanted: T) {
+        assert_eq!(self.rt; made, wanted);
     }
-}
 
-pub fn run<S: Suite>(rt: &impl Abort, suite: &mut S, rows: &[Row]) -> Result<(), Fail> {
-    for row in rows {
-        let Row(call, answer) = *row;
-        assert_eq!(rt; made(suite, call), answer);
+    pub fn offer(&self, seed: usize, out: usize, wanted: Result<usize, Denial>) {
+        let made = self
+            .suite
+            .offer(part(&[1; MOST], seed), room(&mut [0; MOST], out));
+        self.is(made, wanted);
     }
-    Ok(())
+
+    pub fn agree(&mut self, seed: usize, offer: usize, role: u8, wanted: Result<u32, Denial>) {
+        let made = self
+            .suite
+            .agree(part(&[1; MOST], seed), part(&[2; MOST], offer), role);
+        self.is(made, wanted);
+    }
+
+    pub fn derive(&mut self, key: u32, wanted: Result<u32, Denial>) {
+        let made = self.suite.derive(key);
+        self.is(made, wanted);
+    }
+
+    pub fn check(&self, key: u32, role: u8, out: usize, wanted: Result<usize, Denial>) {
+        self.is(
+            self.suite.check(key, role, room(&mut [0; MOST], out)),
+            wanted,
+        );
+    }
+
+    pub fn reveal(&self, key: u32, out: usize, wanted: Result<usize, Denial>) {
+        self.is(self.suite.reveal(key, room(&mut [0; MOST], out)), wanted);
+    }
+
+    pub fn seal(
+        &self,
+        key: u32,
+        role: u8,
+        number: u32,
+        plain: usize,
+        out: usize,
+        wanted: Result<usize, Denial>,
+    ) {
+        let plain = part(&[4; MOST], plain);
+        let made = self
+            .suite
+            .seal(key, role, number, plain, room(&mut [0; MOST], out));
+        self.is(made, wanted);
+    }
+
+    pub fn open(
+        &self,
+        key: u32,
+        payload: usize,
+        out: usize,
+        wanted: Result<Option<(u8, u32, usize)>, Denial>,
+    ) {
+        let payload = part(&[0; MOST], payload);
+        let made = self.suite.open(key, payload, room(&mut [0; MOST], out));
+        self.is(made, wanted);
+    }
+
+    pub fn destroy(&mut self, key: u32, wanted: Result<(), Denial>) {
+        let made = self.suite.destroy(key);
+        self.is(made, wanted);
+    }
 }
