@@ -1,2 +1,1 @@
 pub mod OverLaws
-pub mod Searches
