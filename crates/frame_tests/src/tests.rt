@@ -1,5 +1,3 @@
-ghost use Rattle.std.specs.Prelude.{◌≤◌};
-
 use frame::Service::{Sch, Sse};
 use frame::{
     Body, CodecFault, Detail, FaultCode, MAX_FRAME, Message, MessageKind, ReadError, Refusal,
@@ -82,11 +80,9 @@ fn lengths(rt: HostRuntime) {
 }
 
 // The first three bytes and the length of what is written.
-fn written(service: Service, body: Body<'_>, room: usize) -> Result<([u8; 3], usize), Refusal>
-    requires { room ≤ 300 }
-{
+fn written(service: Service, body: Body<'_>, room: usize) -> Result<([u8; 3], usize), Refusal> {
     let mut out = [0xEE; 300];
-    let length = frame::write(&Message { service, body }, &mut out[..room])?;
+    let length = frame::write(&Message { service, body }, &mut out[..room.min(300)])?;
     Ok(([out[0], out[1], out[2]], length))
 }
 
