@@ -12,4 +12,4 @@ pub inverses : InverseStands
 unfolding right mul power_low inverse
 inverses a h g =
     let e = ne_eqb a 0 (λ z. omega arith) in
-    eqb-true (mul a (inverse a)) 1 (subst (λ b. cond b true (eqb (mul a (inverse a)) 1) ≡ true) e (at right (range_with_len 0 256) refl a g))
+    eqb-true (mul a (inverse a)) 1 (subst (λ b. cond b true (eqb (mul a (inverse a)) 1) ≡ true) e (at right (range_with_len 0 256) refl a 0 g))

@@ -16,7 +16,7 @@ pub use tables::sbox;
 // A key, expanded once for any number of blocks.
 #[derive(Drop)]
 pub struct Aes128 {
-    words: [u32; 44],
+    keys: [[u32; 4]; 11],
 }
 
 impl Aes128 {
@@ -24,13 +24,13 @@ impl Aes128 {
         ensures { words_of result ≡ schedule_of key.now }
     {
         Aes128 {
-            words: expand_key(key),
+            keys: expand_key(key),
         }
     }
 
     pub fn encrypt(&self, block: &[u8; 16]) -> [u8; 16]
         ensures { result ≡ cipher_with (words_of self.now) block.now }
     {
-        encrypt_with(&self.words, block)
+        encrypt_with(&self.keys, block)
     }
 }

@@ -1,99 +1,126 @@
 // The rounds, on words: the four columns of the state, the byte of row 0 highest.
-ghost use Rattle.std.specs.Prelude.{◌≡◌, ◌+◌, ◌<◌, ◌≤◌, [], ◌∷◌, slice_index};
+ghost use Rattle.std.specs.Prelude.{◌≡◌, [], ◌∷◌, slice_index};
 ghost use Rattle.aes128.specs.Field.{sub_byte};
 ghost use Rattle.aes128.specs.Words.{byte_of, word_bytes, word_of, xor_bytes};
-ghost use Rattle.aes128.specs.Cipher.{mix_column, sub_bytes, shift_rows, mix_columns, add_round_key, state_of, cipher_with};
+ghost use Rattle.aes128.specs.Cipher.{block as block_by, mix_column, sub_bytes, shift_rows, mix_columns, add_round_key, key_words, state_of, state_by, words_by, cipher_with};
 
-use super::tables::{entry_0, entry_1, entry_2, entry_3, sbox};
+use super::tables::{mixed, sbox};
 
-// A column of the state after a round: of the words a to d the bytes 0 to 3 are put through the S-box and mixed, and the key's word is added.
-fn column(a: u32, b: u32, c: u32, d: u32, k: u32) -> u32
-    ensures { word_bytes result ≡ xor_bytes (mix_column (sub_byte (byte_of a 0)) (sub_byte (byte_of b 1)) (sub_byte (byte_of c 2)) (sub_byte (byte_of d 3))) (word_bytes k) }
+// The four words of sixteen bytes.
+pub(super) fn words(block: &[u8; 16]) -> [u32; 4]
+    ensures value { result ≡ key_words block.now 0 }
+    ensures bytes { state_of result ≡ block_by (λ k. slice_index block.now k) }
 {
-    entry_0(a >> 24) ^ entry_1((b >> 16) & 0xff) ^ entry_2((c >> 8) & 0xff) ^ entry_3(d & 0xff) ^ k
-}
-
-// The word of four bytes, each put through the S-box.
-pub(super) fn sub_four(a: u8, b: u8, c: u8, d: u8) -> u32
-    ensures value { result ≡ word_of (sub_byte a) (sub_byte b) (sub_byte c) (sub_byte d) }
-    ensures bytes { word_bytes result ≡ sub_byte a ∷ sub_byte b ∷ sub_byte c ∷ sub_byte d ∷ [] }
-{
-    u32::from_be_bytes([sbox(a), sbox(b), sbox(c), sbox(d)])
-}
-
-// A column of the state after the last round, which mixes no columns.
-fn last_column(a: u32, b: u32, c: u32, d: u32, k: u32) -> u32
-    ensures { word_bytes result ≡ xor_bytes (sub_byte (byte_of a 0) ∷ sub_byte (byte_of b 1) ∷ sub_byte (byte_of c 2) ∷ sub_byte (byte_of d 3) ∷ []) (word_bytes k) }
-{
-    sub_four(
-        (a >> 24) as u8,
-        ((b >> 16) & 0xff) as u8,
-        ((c >> 8) & 0xff) as u8,
-        (d & 0xff) as u8,
-    ) ^ k
-}
-
-fn round(w: &[u32; 44], n: usize, s: [u32; 4]) -> [u32; 4]
-    requires { n < 11 }
-    ensures { state_of result ≡ add_round_key w.now n (mix_columns (shift_rows (sub_bytes (state_of s)))) }
-{
-    let c0 = column(s[0], s[1], s[2], s[3], w[4 * n]);
-    let c1 = column(s[1], s[2], s[3], s[0], w[4 * n + 1]);
-    let c2 = column(s[2], s[3], s[0], s[1], w[4 * n + 2]);
-    let c3 = column(s[3], s[0], s[1], s[2], w[4 * n + 3]);
-    [c0, c1, c2, c3]
-}
-
-fn last_round(w: &[u32; 44], s: [u32; 4]) -> [u32; 4]
-    ensures { state_of result ≡ add_round_key w.now 10 (shift_rows (sub_bytes (state_of s))) }
-{
-    let c0 = last_column(s[0], s[1], s[2], s[3], w[40]);
-    let c1 = last_column(s[1], s[2], s[3], s[0], w[41]);
-    let c2 = last_column(s[2], s[3], s[0], s[1], w[42]);
-    let c3 = last_column(s[3], s[0], s[1], s[2], w[43]);
-    [c0, c1, c2, c3]
-}
-
-// The word of the four bytes from the place i on.
-pub(super) fn word_at(b: &[u8; 16], i: usize) -> u32
-    requires { i ≤ 12 }
-    ensures value { result ≡ word_of (slice_index b.now i) (slice_index b.now (i + 1)) (slice_index b.now (i + 2)) (slice_index b.now (i + 3)) }
-    ensures bytes { word_bytes result ≡ slice_index b.now i ∷ slice_index b.now (i + 1) ∷ slice_index b.now (i + 2) ∷ slice_index b.now (i + 3) ∷ [] }
-{
-    u32::from_be_bytes([b[i], b[i + 1], b[i + 2], b[i + 3]])
-}
-
-fn first_key(w: &[u32; 44], input: &[u8; 16]) -> [u32; 4]
-    ensures { state_of result ≡ add_round_key w.now 0 input.now }
-{
-    let c0 = word_at(input, 0);
-    let c1 = word_at(input, 4);
-    let c2 = word_at(input, 8);
-    let c3 = word_at(input, 12);
-    [c0 ^ w[0], c1 ^ w[1], c2 ^ w[2], c3 ^ w[3]]
+    let [
+        a0,
+        a1,
+        a2,
+        a3,
+        b0,
+        b1,
+        b2,
+        b3,
+        c0,
+        c1,
+        c2,
+        c3,
+        d0,
+        d1,
+        d2,
+        d3,
+    ] = *block;
+    [
+        u32::from_be_bytes([a0, a1, a2, a3]),
+        u32::from_be_bytes([b0, b1, b2, b3]),
+        u32::from_be_bytes([c0, c1, c2, c3]),
+        u32::from_be_bytes([d0, d1, d2, d3]),
+    ]
 }
 
 // The sixteen bytes of four words.
 fn state_bytes(s: [u32; 4]) -> [u8; 16]
     ensures { result ≡ state_of s }
 {
-    let [c00, c01, c02, c03] = s[0].to_be_bytes();
-    let [c10, c11, c12, c13] = s[1].to_be_bytes();
-    let [c20, c21, c22, c23] = s[2].to_be_bytes();
-    let [c30, c31, c32, c33] = s[3].to_be_bytes();
+    let [a, b, c, d] = s;
+    let [a0, a1, a2, a3] = a.to_be_bytes();
+    let [b0, b1, b2, b3] = b.to_be_bytes();
+    let [c0, c1, c2, c3] = c.to_be_bytes();
+    let [d0, d1, d2, d3] = d.to_be_bytes();
     [
-        c00, c01, c02, c03, c10, c11, c12, c13, c20, c21, c22, c23, c30, c31, c32, c33,
+        a0, a1, a2, a3, b0, b1, b2, b3, c0, c1, c2, c3, d0, d1, d2, d3,
+    ]
+}
+
+// The columns after ShiftRows, byte by byte.
+fn shifted(s: [u32; 4]) -> [[u8; 4]; 4]
+    ensures { state_by result ≡ shift_rows (state_of s) }
+{
+    let [a, b, c, d] = s;
+    let [a0, a1, a2, a3] = a.to_be_bytes();
+    let [b0, b1, b2, b3] = b.to_be_bytes();
+    let [c0, c1, c2, c3] = c.to_be_bytes();
+    let [d0, d1, d2, d3] = d.to_be_bytes();
+    [
+        [a0, b1, c2, d3],
+        [b0, c1, d2, a3],
+        [c0, d1, a2, b3],
+        [d0, a1, b2, c3],
+    ]
+}
+
+// SubBytes at a column.
+pub(super) fn sub_column(column: [u8; 4]) -> u32
+    ensures value { result ≡ word_of (sub_byte (slice_index column 0)) (sub_byte (slice_index column 1)) (sub_byte (slice_index column 2)) (sub_byte (slice_index column 3)) }
+    ensures bytes { word_bytes result ≡ sub_byte (slice_index column 0) ∷ sub_byte (slice_index column 1) ∷ sub_byte (slice_index column 2) ∷ sub_byte (slice_index column 3) ∷ [] }
+{
+    let [a, b, c, d] = column;
+    u32::from_be_bytes([sbox(a), sbox(b), sbox(c), sbox(d)])
+}
+
+// SubBytes and MixColumns at a column.
+fn mixed_column(column: [u8; 4]) -> u32
+    ensures { word_bytes result ≡ mix_column (sub_byte (slice_index column 0)) (sub_byte (slice_index column 1)) (sub_byte (slice_index column 2)) (sub_byte (slice_index column 3)) }
+{
+    let [a, b, c, d] = column;
+    mixed::<0>(a) ^ mixed::<1>(b) ^ mixed::<2>(c) ^ mixed::<3>(d)
+}
+
+fn add_round_key(key: &[u32; 4], s: [u32; 4]) -> [u32; 4]
+    ensures { state_of result ≡ add_round_key key.now 0 (state_of s) }
+{
+    let [k0, k1, k2, k3] = *key;
+    let [a, b, c, d] = s;
+    [a ^ k0, b ^ k1, c ^ k2, d ^ k3]
+}
+
+// SubBytes at every column.
+fn sub_columns(columns: [[u8; 4]; 4]) -> [u32; 4]
+    ensures { state_of result ≡ sub_bytes (state_by columns) }
+{
+    columns.map(sub_column)
+}
+
+// A round under its key, from the columns after ShiftRows. Each word takes its own key: `add_round_key(key, columns.map(mixed_column))` takes half as long again.
+fn round(key: &[u32; 4], columns: [[u8; 4]; 4]) -> [u32; 4]
+    ensures { state_of result ≡ add_round_key key.now 0 (mix_columns (sub_bytes (state_by columns))) }
+{
+    let [a, b, c, d] = columns;
+    let [k0, k1, k2, k3] = *key;
+    [
+        mixed_column(a) ^ k0,
+        mixed_column(b) ^ k1,
+        mixed_column(c) ^ k2,
+        mixed_column(d) ^ k3,
     ]
 }
 
 // One block, under a key that is expanded.
-pub(super) fn encrypt_with(w: &[u32; 44], input: &[u8; 16]) -> [u8; 16]
-    ensures { result ≡ cipher_with w.now input.now }
+pub(super) fn encrypt_with(keys: &[[u32; 4]; 11], input: &[u8; 16]) -> [u8; 16]
+    ensures { result ≡ cipher_with (words_by keys.now) input.now }
 {
-    let mut s = first_key(w, input);
-    for n in 1..10 {
-        let t = round(w, n, s);
-        s = t;
+    let mut s = add_round_key(&keys[0], words(input));
+    for key in &keys[1..10] {
+        s = round(key, shifted(s));
     }
-    state_bytes(last_round(w, s))
+    state_bytes(add_round_key(&keys[10], sub_columns(shifted(s))))
 }

@@ -1,14 +1,14 @@
 // AES-CMAC (RFC 4493).
 #![tactic(auto)]
 
-ghost use Rattle.std.specs.Prelude.{◌≡◌, ◌*◌};
+ghost use Rattle.std.specs.Prelude.{◌≡◌, ◌≤◌, length};
 ghost use Rattle.aes128.specs.Keys.{words_of};
-ghost use Rattle.cmac.specs.Cmac.{subkey1, subkey2, before as blocks_before, last_block, cmac_with, cmac as mac_of};
+ghost use Rattle.cmac.specs.Cmac.{subkey1, subkey2, last_block, cmac_with, cmac as mac_of};
 
 mod blocks;
 
 use aes128::Aes128;
-use blocks::{block_at, doubled, pad, xor_block};
+use blocks::{doubled, pad, xor_block};
 
 // The subkeys K1 and K2.
 pub fn subkeys(cipher: &Aes128) -> ([u8; 16], [u8; 16])
@@ -19,16 +19,15 @@ pub fn subkeys(cipher: &Aes128) -> ([u8; 16], [u8; 16])
     (k1, doubled(k1))
 }
 
-// The last block, which begins at p: whole with K1, or padded with K2.
-fn last_block(cipher: &Aes128, text: &[u8], p: usize) -> [u8; 16]
-    requires { p ≡ 16 * blocks_before text.now }
-    ensures { result ≡ last_block (words_of cipher.now) text.now }
+// The last block: whole with K1, or padded with K2.
+fn last_block(cipher: &Aes128, rest: &[u8]) -> [u8; 16]
+    requires { length rest.now ≤ 16 }
+    ensures { result ≡ last_block (words_of cipher.now) rest.now }
 {
     let (k1, k2) = subkeys(cipher);
-    if text.len() - p == 16 {
-        xor_block(block_at(text, p), k1)
-    } else {
-        xor_block(pad(&text[p..]), k2)
+    match rest.as_array() {
+        Some(block) => xor_block(*block, k1),
+        None => xor_block(pad(rest), k2),
     }
 }
 
@@ -36,17 +35,16 @@ fn last_block(cipher: &Aes128, text: &[u8], p: usize) -> [u8; 16]
 pub fn tag(cipher: &Aes128, text: &[u8]) -> [u8; 16]
     ensures { result ≡ cmac_with (words_of cipher.now) text.now }
 {
-    let before = text.len().saturating_sub(1) / 16;
-    let mut x = [0u8; 16];
-    for i in 0..before {
-        let b = block_at(text, 16 * i);
-        let y = xor_block(x, b);
-        let t = cipher.encrypt(&y);
-        x = t;
+    let mut x = [0; 16];
+    let mut rest = text;
+    while let Some((block, after)) = rest.split_first_chunk() {
+        if after.is_empty() {
+            break;
+        }
+        x = cipher.encrypt(&xor_block(x, *block));
+        rest = after;
     }
-    let b = last_block(cipher, text, 16 * before);
-    let y = xor_block(b, x);
-    cipher.encrypt(&y)
+    cipher.encrypt(&xor_block(last_block(cipher, rest), x))
 }
 
 // The tag of a text under a key.

@@ -16,126 +16,83 @@ const MESSAGE: [u8; 64] = [
     0xf6, 0x9f, 0x24, 0x45, 0xdf, 0x4f, 0x9b, 0x17, 0xad, 0x2b, 0x41, 0x7b, 0xe6, 0x6c, 0x37, 0x10,
 ];
 
-fn compare(rt: &HostRuntime, name: &str, got: &[u8; 16], published: &[u8; 16]) -> io::Result<()> {
-    let text = hex_text::encode(rt.alloc(), got)?;
-    let verdict = if got == published {
-        "as published"
-    } else {
-        "NOT AS PUBLISHED"
-    };
-    println!(rt; "{name}: {text} {verdict}")
-}
-
-fn cipher_example(rt: &HostRuntime) -> io::Result<()> {
-    let input = [
-        0x32, 0x43, 0xf6, 0xa8, 0x88, 0x5a, 0x30, 0x8d, 0x31, 0x31, 0x98, 0xa2, 0xe0, 0x37, 0x07,
-        0x34,
-    ];
-    let published = [
-        0x39, 0x25, 0x84, 0x1d, 0x02, 0xdc, 0x09, 0xfb, 0xdc, 0x11, 0x85, 0x97, 0x19, 0x6a, 0x0b,
-        0x32,
-    ];
-    compare(
-        rt,
-        "FIPS 197, appendix B, cipher example",
-        &Aes128::new(&KEY).encrypt(&input),
-        &published,
-    )
-}
-
-fn example_vector(rt: &HostRuntime) -> io::Result<()> {
-    let key = [0, 1, 2, 3, 4, 5, 6, 7, 8, 9, 10, 11, 12, 13, 14, 15];
-    let input = [
-        0x00, 0x11, 0x22, 0x33, 0x44, 0x55, 0x66, 0x77, 0x88, 0x99, 0xaa, 0xbb, 0xcc, 0xdd, 0xee,
-        0xff,
-    ];
-    let published = [
-        0x69, 0xc4, 0xe0, 0xd8, 0x6a, 0x7b, 0x04, 0x30, 0xd8, 0xcd, 0xb7, 0x80, 0x70, 0xb4, 0xc5,
-        0x5a,
-    ];
-    compare(
-        rt,
-        "FIPS 197, appendix C.1, AES-128",
-        &Aes128::new(&key).encrypt(&input),
-        &published,
-    )
-}
-
-fn subkeys(rt: &HostRuntime, cipher: &Aes128) -> io::Result<()> {
-    let published_l = [
-        0x7d, 0xf7, 0x6b, 0x0c, 0x1a, 0xb8, 0x99, 0xb3, 0x3e, 0x42, 0xf0, 0x47, 0xb9, 0x1b, 0x54,
-        0x6f,
-    ];
-    let published_k1 = [
-        0xfb, 0xee, 0xd6, 0x18, 0x35, 0x71, 0x33, 0x66, 0x7c, 0x85, 0xe0, 0x8f, 0x72, 0x36, 0xa8,
-        0xde,
-    ];
-    let published_k2 = [
-        0xf7, 0xdd, 0xac, 0x30, 0x6a, 0xe2, 0x66, 0xcc, 0xf9, 0x0b, 0xc1, 0x1e, 0xe4, 0x6d, 0x51,
-        0x3b,
-    ];
-    let (k1, k2) = cmac::subkeys(cipher);
-    compare(
-        rt,
-        "RFC 4493, AES-128 of zeros",
-        &cipher.encrypt(&[0; 16]),
-        &published_l,
-    )?;
-    compare(rt, "RFC 4493, subkey K1", &k1, &published_k1)?;
-    compare(rt, "RFC 4493, subkey K2", &k2, &published_k2)
-}
-
-fn short_messages(rt: &HostRuntime, cipher: &Aes128) -> io::Result<()> {
-    let published_1 = [
-        0xbb, 0x1d, 0x69, 0x29, 0xe9, 0x59, 0x37, 0x28, 0x7f, 0xa3, 0x7d, 0x12, 0x9b, 0x75, 0x67,
-        0x46,
-    ];
-    let published_2 = [
-        0x07, 0x0a, 0x16, 0xb4, 0x6b, 0x4d, 0x41, 0x44, 0xf7, 0x9b, 0xdd, 0x9d, 0xd0, 0x4a, 0x28,
-        0x7c,
-    ];
-    compare(
-        rt,
-        "RFC 4493, example 1, no bytes",
-        &cmac::tag(cipher, &[]),
-        &published_1,
-    )?;
-    compare(
-        rt,
-        "RFC 4493, example 2, 16 bytes",
-        &cmac::tag(cipher, &MESSAGE[0..16]),
-        &published_2,
-    )
-}
-
-fn long_messages(rt: &HostRuntime, cipher: &Aes128) -> io::Result<()> {
-    let published_3 = [
-        0xdf, 0xa6, 0x67, 0x47, 0xde, 0x9a, 0xe6, 0x30, 0x30, 0xca, 0x32, 0x61, 0x14, 0x97, 0xc8,
-        0x27,
-    ];
-    let published_4 = [
-        0x51, 0xf0, 0xbe, 0xbf, 0x7e, 0x3b, 0x9d, 0x92, 0xfc, 0x49, 0x74, 0x17, 0x79, 0x36, 0x3c,
-        0xfe,
-    ];
-    compare(
-        rt,
-        "RFC 4493, example 3, 40 bytes",
-        &cmac::tag(cipher, &MESSAGE[0..40]),
-        &published_3,
-    )?;
-    compare(
-        rt,
-        "RFC 4493, example 4, 64 bytes",
-        &cmac::cmac(&KEY, &MESSAGE),
-        &published_4,
-    )
+// A value and what the standards publish for it.
+#[derive(Drop)]
+struct Case {
+    name: &'static str,
+    computed: [u8; 16],
+    published: u128,
 }
 
 fn main(rt: HostRuntime) -> io::Result<()> {
     let cipher = Aes128::new(&KEY);
-    cipher_example(&rt)?;
-    example_vector(&rt)?;
-    subkeys(&rt, &cipher)?;
-    short_messages(&rt, &cipher)?;
-    long_messages(&rt, &cipher)
+    let appendix_c = Aes128::new(&[0, 1, 2, 3, 4, 5, 6, 7, 8, 9, 10, 11, 12, 13, 14, 15]);
+    let (k1, k2) = cmac::subkeys(&cipher);
+    let cases = [
+        Case {
+            name: "FIPS 197, appendix B, cipher example",
+            computed: cipher.encrypt(&[
+                0x32, 0x43, 0xf6, 0xa8, 0x88, 0x5a, 0x30, 0x8d, 0x31, 0x31, 0x98, 0xa2, 0xe0, 0x37,
+                0x07, 0x34,
+            ]),
+            published: 0x3925841d_02dc09fb_dc118597_196a0b32,
+        },
+        Case {
+            name: "FIPS 197, appendix C.1, AES-128",
+            computed: appendix_c.encrypt(&[
+                0x00, 0x11, 0x22, 0x33, 0x44, 0x55, 0x66, 0x77, 0x88, 0x99, 0xaa, 0xbb, 0xcc, 0xdd,
+                0xee, 0xff,
+            ]),
+            published: 0x69c4e0d8_6a7b0430_d8cdb780_70b4c55a,
+        },
+        Case {
+            name: "RFC 4493, AES-128 of zeros",
+            computed: cipher.encrypt(&[0; 16]),
+            published: 0x7df76b0c_1ab899b3_3e42f047_b91b546f,
+        },
+        Case {
+            name: "RFC 4493, subkey K1",
+            computed: k1,
+            published: 0xfbeed618_35713366_7c85e08f_7236a8de,
+        },
+        Case {
+            name: "RFC 4493, subkey K2",
+            computed: k2,
+            published: 0xf7ddac30_6ae266cc_f90bc11e_e46d513b,
+        },
+        Case {
+            name: "RFC 4493, example 1, no bytes",
+            computed: cmac::tag(&cipher, &[]),
+            published: 0xbb1d6929_e9593728_7fa37d12_9b756746,
+        },
+        Case {
+            name: "RFC 4493, example 2, 16 bytes",
+            computed: cmac::tag(&cipher, &MESSAGE[..16]),
+            published: 0x070a16b4_6b4d4144_f79bdd9d_d04a287c,
+        },
+        Case {
+            name: "RFC 4493, example 3, 40 bytes",
+            computed: cmac::tag(&cipher, &MESSAGE[..40]),
+            published: 0xdfa66747_de9ae630_30ca3261_1497c827,
+        },
+        Case {
+            name: "RFC 4493, example 4, 64 bytes",
+            computed: cmac::cmac(&KEY, &MESSAGE),
+            published: 0x51f0bebf_7e3b9d92_fc497417_79363cfe,
+        },
+    ];
+    for Case {
+        name,
+        computed,
+        published,
+    } in &cases {
+        let text = hex_text::encode(rt.alloc(), computed)?;
+        let verdict = if u128::from_be_bytes(*computed) == *published {
+            "as published"
+        } else {
+            "NOT AS PUBLISHED"
+        };
+        println!(rt; "{name}: {text} {verdict}")?;
+    }
+    Ok(())
 }

@@ -1,8 +1,0 @@
-use Rattle.std.proofs.Common.{refl}
-use Rattle.aes128.specs.Field.{mul, power_low, inverse, sub_byte}
-use Rattle.aes128.proofs.RoundTables.{entry1, table1, words}
-use Rattle.aes128.proofs.tables.entry_1.Goals as goal
-
-pub returns : goal.returns
-unfolding sub_byte inverse power_low mul
-returns c = words (λ k. entry1 (sub_byte k)) table1 c.args.x c.requires refl
