@@ -14,7 +14,7 @@ abbrev pub mark_number : RowMark → ℕ
 mark_number Live = 1
 mark_number Destroyed = 2
 
--- the row of no key, which has no serial that a key can have
+-- the row of no key: keys have serials from 1 on
 abbrev pub unused_row : Row
 unused_row = record { serial = 0; kind = SharedSecret; mark = Destroyed }
 
@@ -31,6 +31,7 @@ abbrev pub struck : ℕ → List Row → List Row
 struck n [] = []
 struck n (r ∷ rs) = cond (r.serial == n) (marked r ∷ rs) (r ∷ struck n rs)
 
+-- a row of that serial
 abbrev pub has_serial : ℕ → Row → Bool
 has_serial n r = r.serial == n
 
