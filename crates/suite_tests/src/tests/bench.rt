@@ -114,8 +114,11 @@ fn wrote(rt: &impl Abort, answer: Result<usize, Denial>, out: &[u8; 255], bytes:
 // The two sides of one agreement, with the seeds 01 .. and 02 ..
 fn secrets_agree(rt: &impl Abort, sender: &mut Bench, recipient: &mut Bench) {
     let mut out = [0; 255];
-    assert_eq!(rt; sender.agree(&[1; 16], &[2; 16], SENDER), Ok(1));
-    assert_eq!(rt; recipient.agree(&[2; 16], &[1; 16], RECIPIENT), Ok(1));
+    let secrets = (
+        sender.agree(&[1; 16], &[2; 16], SENDER),
+        recipient.agree(&[2; 16], &[1; 16], RECIPIENT),
+    );
+    assert_eq!(rt; secrets, (Ok(1), Ok(1)));
     wrote(rt, sender.reveal(1, &mut out), &out, &[3; 16]);
     wrote(rt, recipient.reveal(1, &mut out), &out, &[3; 16]);
     wrote(rt, sender.check(1, SENDER, &mut out), &out, &[1, 3, 3, 3]);
@@ -208,9 +211,12 @@ fn ended_live(store: KeyStore) -> bool {
 #[test]
 fn store(rt: HostRuntime) {
     let mut store = KeyStore::new();
-    assert_eq!(rt; store.put(KeyKind::SharedSecret, &[5; 16]), Ok(1));
-    assert_eq!(rt; store.put(KeyKind::LinkKey, &[6; 16]), Ok(2));
-    assert_eq!(rt; store.put(KeyKind::LinkKey, &[6; 16]), Err(Denial::Spent));
+    let puts = [
+        store.put(KeyKind::SharedSecret, &[5; 16]),
+        store.put(KeyKind::LinkKey, &[6; 16]),
+        store.put(KeyKind::LinkKey, &[6; 16]),
+    ];
+    assert_eq!(rt; puts, [Ok(1), Ok(2), Err(Denial::Spent)]);
     assert_eq!(rt; store.value_of(KeyKind::SharedSecret, 1), Some(&[5; 16]));
     assert_eq!(rt; store.value_of(KeyKind::LinkKey, 1), None);
     assert!(rt; store.remove(1) && !store.remove(1));

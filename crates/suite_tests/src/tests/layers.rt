@@ -73,7 +73,13 @@ fn ledger_rows(rt: HostRuntime) {
     };
     let secret = live_secret(3);
     assert_eq!(rt; suite.rows(), [link, secret].as_slice());
-    let rows = [0, 1, 2, 31, 32].map(|place| suite.row(place));
+    let rows = [
+        suite.row(0),
+        suite.row(1),
+        suite.row(2),
+        suite.row(31),
+        suite.row(32),
+    ];
     assert_eq!(rt; rows, [Some(link), Some(secret), None, None, None]);
     assert_eq!(rt; suite.last_serial(), 33);
     let _root = suite.into_below().close();
