@@ -68,7 +68,7 @@ fn shifted(s: [u32; 4]) -> [[u8; 4]; 4]
     ]
 }
 
-// SubBytes at a column.
+// SubBytes at a column, alone in the last round: no table of words serves both this and `mixed_column`.
 pub(super) fn sub_column(column: [u8; 4]) -> u32
     ensures value { result ≡ word_of (sub_byte (slice_index column 0)) (sub_byte (slice_index column 1)) (sub_byte (slice_index column 2)) (sub_byte (slice_index column 3)) }
     ensures bytes { word_bytes result ≡ sub_byte (slice_index column 0) ∷ sub_byte (slice_index column 1) ∷ sub_byte (slice_index column 2) ∷ sub_byte (slice_index column 3) ∷ [] }

@@ -36,7 +36,7 @@ fn next_key(key: &[u32; 4], rcon: u32) -> [u32; 4]
     [a, b, c, d ^ c]
 }
 
-// The key schedule.
+// The key schedule. By places, since each round key comes of the one before it in the same array.
 pub(super) fn expand_key(key: &[u8; 16]) -> [[u32; 4]; 11]
     ensures { words_by result ≡ schedule key.now }
 {

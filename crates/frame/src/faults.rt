@@ -16,6 +16,7 @@ pub enum Refusal {
 }
 
 impl Refusal {
+    // A cast in each enum: an impl of a trait of numbers would be longer each time.
     pub fn number(self) -> u8
         ensures { result ≡ refusal_number self }
     {

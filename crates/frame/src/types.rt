@@ -19,7 +19,7 @@ pub enum Service {
 }
 
 impl Service {
-    // The SVC bits of SEP.
+    // The SVC bits of SEP. A cast in each enum: an impl of a trait of numbers would be longer each time.
     pub fn code(self) -> u8
         ensures { result ≡ service_code self }
     {
@@ -66,7 +66,7 @@ pub enum MessageKind {
 }
 
 impl MessageKind {
-    // The MSG bits of SEP.
+    // The MSG bits of SEP, by a cast as above.
     pub fn code(self) -> u8
         ensures { result ≡ message_code self }
     {

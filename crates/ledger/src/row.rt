@@ -13,6 +13,7 @@ pub enum RowMark {
 }
 
 impl RowMark {
+    // A cast in each enum: an impl of a trait of numbers would be longer each time.
     pub fn number(self) -> u8
         ensures { result ≡ mark_number self }
     {

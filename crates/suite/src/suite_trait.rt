@@ -7,6 +7,7 @@ ghost use Rattle.suite.specs.Calls.{offered, agreed, derived, checked, revealed,
 
 use super::types::{Denial, KindNumbers};
 
+// A role comes as a byte, since a byte that is no role has its answer here too: Unfit.
 pub trait Suite {
     // What the suite means now.
     ghost meaning: { Self → Meaning };

@@ -13,6 +13,7 @@ pub enum Role {
 }
 
 impl Role {
+    // A cast in each enum: an impl of a trait of numbers would be longer each time.
     pub fn byte(self) -> u8
         ensures { result ≡ role_byte self }
     {
@@ -53,6 +54,7 @@ pub enum KeyKind {
 }
 
 impl KeyKind {
+    // By a cast, as a role's byte.
     pub fn number(self) -> u8
         ensures { result ≡ kind_number self }
     {
@@ -85,6 +87,7 @@ pub enum Denial {
 }
 
 impl Denial {
+    // By a cast, as a role's byte.
     pub fn number(self) -> u8
         ensures { result ≡ denial_number self }
     {

@@ -21,7 +21,7 @@ impl fmt::Display for Key {
     }
 }
 
-// The part of a buffer that a call wrote, by the length that it answered.
+// The part of a buffer that a call wrote, by the length that it answered: cut, since only a suite's laws bound that length.
 fn written(out: &[u8; 255], length: usize) -> &[u8] {
     &out[..length.min(255)]
 }

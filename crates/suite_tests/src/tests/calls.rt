@@ -5,6 +5,7 @@ use suite::{Denial, Role, Suite};
 
 pub const ROOT: [u8; 16] = [7; 16];
 
+// Bytes, as a suite takes roles.
 pub const SENDER: u8 = Role::Sender as u8;
 
 pub const RECIPIENT: u8 = Role::Recipient as u8;
