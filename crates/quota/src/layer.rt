@@ -32,7 +32,8 @@ impl<S: Suite> Quota<S> {
         below
     }
 
-    // Why a used-up allowance makes no shared secret of these. The role is a byte, as in the call; a link key is denied for other reasons.
+    // Why a used-up allowance makes no shared secret of these. The role is a byte, as in the call, and a link key is denied for other
+    // reasons.
     fn agree_denial(&self, seed: &[u8], offer: &[u8], role: u8) -> Denial
         ensures { Err result ≡ agreed S.scheme (limited (S.meaning self.now.below) 0) seed.now offer.now role }
     {
