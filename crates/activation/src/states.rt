@@ -8,13 +8,13 @@ use std::fmt;
 const SEC: u8 = 0x80;
 
 // An activation that one peer has offered with its own byte, PPi or PPt.
-#[derive(Debug, Drop, PartialEq, Eq)]
+#[derive(Drop)]
 pub struct Offered {
     own: u8,
 }
 
 // An activation in which both peers support NFC-SEC. It makes one entity, which takes it.
-#[derive(Debug, Drop, PartialEq, Eq)]
+#[derive(Drop)]
 pub struct Agreed {
     offer: Offered,
     peer: u8,
@@ -27,7 +27,7 @@ pub enum Refusal {
 }
 
 // A refused activation, with the offer for another try.
-#[derive(Debug, Drop, PartialEq, Eq)]
+#[derive(Drop)]
 pub struct Refused {
     pub refusal: Refusal,
     pub offer: Offered,
@@ -40,7 +40,7 @@ fn supports(pp: u8) -> bool
 }
 
 impl Refusal {
-    // A cast in each enum: an impl of a trait of numbers would be longer each time.
+    // A cast under a name of its own: `u8::from` would not say which number it is.
     pub fn number(self) -> u8
         ensures { result ≡ refusal_number self }
     {
@@ -59,16 +59,6 @@ impl fmt::Display for Refusal {
 }
 
 impl Error for Refusal {}
-
-impl fmt::Display for Refused {
-    ghost output = { λ refused. Some (refusal_words refused.refusal) };
-
-    fn fmt<W: fmt::Write>(&self, f: &mut fmt::Formatter<W>) -> fmt::Result {
-        self.refusal.fmt(f)
-    }
-}
-
-impl Error for Refused {}
 
 impl Offered {
     // Any byte can be offered.

@@ -7,7 +7,8 @@ use Rattle.std.proofs.lemmas.List.FromFn.{get_or-map-range_with_len, length-map-
 use Rattle.aes128.specs.declared.schedule.TheConstants.{RCON}
 use Rattle.aes128.specs.Field.{mul, power_low, sub_byte}
 use Rattle.aes128.specs.Words.{byte_of, word_bytes, word_of}
-use Rattle.aes128.specs.Cipher.{sub_word, rot_word, rcon, next_word, key_after, key_words, in_fours}
+use Rattle.aes128.specs.Cipher.{sub_word, rot_word, rcon, next_word, key_words}
+use Rattle.aes128.specs.Fours.{key_after, in_fours}
 use Rattle.aes128.proofs.RoundKeys.{in_fours_at}
 use Rattle.aes128.proofs.TableRules.{entries}
 use Rattle.aes128.proofs.Words.{bytes_of_word, byte_at}

@@ -2,7 +2,8 @@
 use Rattle.std.proofs.Common.{◌≡◌, ℕ, ◌+◌, ◌*◌, ◌/◌, ◌%◌, ◌<◌, List, [], get_or, take, drop, ◌∙◌, arith}
 use Rattle.std.proofs.lemmas.Grind.{common_steps}
 use Rattle.std.proofs.lemmas.List.FromFn.{get_or-map-range_with_len}
-use Rattle.aes128.specs.Cipher.{add_round_key, sub_bytes, shift_rows, in_fours, words_by}
+use Rattle.aes128.specs.Cipher.{add_round_key, sub_bytes, shift_rows}
+use Rattle.aes128.specs.Fours.{in_fours, words_by}
 
 pub in_fours_at : (xss : List (List ℕ)) (n j : ℕ) → j < 4 → in_fours xss (4 * n + j) ≡ get_or (get_or xss n []) j 0
 in_fours_at xss n j h =

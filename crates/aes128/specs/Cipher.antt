@@ -1,5 +1,5 @@
 -- AES-128 encryption, from FIPS 197 section 5. The state is a list of sixteen bytes, the byte of row r and column c at r + 4 * c.
-use Rattle.std.specs.Prelude.{ℕ, zero, suc, ◌+◌, ◌-◌, ◌*◌, ◌/◌, ◌%◌, cond, List, [], ◌∷◌, ◌++◌, map, ◌==◌, bit_xor, slice_index, slice_index_or}
+use Rattle.std.specs.Prelude.{ℕ, zero, suc, ◌+◌, ◌-◌, ◌*◌, ◌/◌, ◌%◌, cond, List, [], ◌∷◌, ◌++◌, map, ◌==◌, bit_xor, slice_index}
 use Rattle.std.specs.List.{range_with_len}
 use Rattle.aes128.specs.Field.{mul, power_low, sub_byte}
 use Rattle.aes128.specs.Words.{byte_of, word_of}
@@ -55,14 +55,6 @@ next_word i ws =
     bit_xor (slice_index ws (i - 4))
     (cond (i % 4 == 0) (bit_xor (sub_word (rot_word (slice_index ws (i - 1)))) (rcon (i / 4))) (slice_index ws (i - 1)))
 
--- the four words after four whose place is a multiple of four; c is their round constant
-abbrev pub key_after : List ℕ → ℕ → List ℕ
-key_after key c =
-    let w0 = bit_xor (slice_index key 0) (bit_xor (sub_word (rot_word (slice_index key 3))) c) in
-    let w1 = bit_xor (slice_index key 1) w0 in
-    let w2 = bit_xor (slice_index key 2) w1 in
-    w0 ∷ w1 ∷ w2 ∷ bit_xor (slice_index key 3) w2 ∷ []
-
 -- the key's four words, and n more
 abbrev pub key_words : List ℕ → ℕ → List ℕ
 key_words key zero =
@@ -86,15 +78,3 @@ cipher key input = cipher_with (schedule key) input
 -- the state that four words hold
 abbrev pub state_of : List ℕ → List ℕ
 state_of ws = block (λ k. byte_of (slice_index ws (k / 4)) (k % 4))
-
--- the number i of numbers that lie in lists of four
-abbrev pub in_fours : List (List ℕ) → ℕ → ℕ
-in_fours xss i = slice_index (slice_index_or xss (i / 4) []) (i % 4)
-
--- the state that four columns hold
-abbrev pub state_by : List (List ℕ) → List ℕ
-state_by columns = block (in_fours columns)
-
--- the words of eleven round keys
-unfoldable pub words_by : List (List ℕ) → List ℕ
-words_by keys = map (in_fours keys) (range_with_len 0 44)

@@ -1,4 +1,5 @@
 pub mod Cipher
 pub mod Field
+pub mod Fours
 pub mod Keys
 pub mod Words

@@ -2,11 +2,12 @@
 ghost use Rattle.std.specs.Prelude.{◌≡◌, [], ◌∷◌, slice_index};
 ghost use Rattle.aes128.specs.Field.{sub_byte};
 ghost use Rattle.aes128.specs.Words.{byte_of, word_bytes, word_of, xor_bytes};
-ghost use Rattle.aes128.specs.Cipher.{block as block_by, mix_column, sub_bytes, shift_rows, mix_columns, add_round_key, key_words, state_of, state_by, words_by, cipher_with};
+ghost use Rattle.aes128.specs.Cipher.{block as block_by, mix_column, sub_bytes, shift_rows, mix_columns, add_round_key, key_words, state_of, cipher_with};
+ghost use Rattle.aes128.specs.Fours.{state_by, words_by};
 
 use super::tables::{mixed, sbox};
 
-// The four words of sixteen bytes.
+// The four words of sixteen bytes. Each byte has a name: by chunks, the places of four would be counted instead.
 pub(super) fn words(block: &[u8; 16]) -> [u32; 4]
     ensures value { result ≡ key_words block.now 0 }
     ensures bytes { state_of result ≡ block_by (λ k. slice_index block.now k) }
@@ -51,7 +52,7 @@ fn state_bytes(s: [u32; 4]) -> [u8; 16]
     ]
 }
 
-// The columns after ShiftRows, byte by byte.
+// The columns after ShiftRows, byte by byte: the bytes have names as in `state_bytes`, since each goes to another place.
 fn shifted(s: [u32; 4]) -> [[u8; 4]; 4]
     ensures { state_by result ≡ shift_rows (state_of s) }
 {
@@ -68,7 +69,7 @@ fn shifted(s: [u32; 4]) -> [[u8; 4]; 4]
     ]
 }
 
-// SubBytes at a column, alone in the last round: no table of words serves both this and `mixed_column`.
+// SubBytes at a column, for the last round and the key schedule, which mix no columns.
 pub(super) fn sub_column(column: [u8; 4]) -> u32
     ensures value { result ≡ word_of (sub_byte (slice_index column 0)) (sub_byte (slice_index column 1)) (sub_byte (slice_index column 2)) (sub_byte (slice_index column 3)) }
     ensures bytes { word_bytes result ≡ sub_byte (slice_index column 0) ∷ sub_byte (slice_index column 1) ∷ sub_byte (slice_index column 2) ∷ sub_byte (slice_index column 3) ∷ [] }
@@ -100,7 +101,8 @@ fn sub_columns(columns: [[u8; 4]; 4]) -> [u32; 4]
     columns.map(sub_column)
 }
 
-// A round under its key, from the columns after ShiftRows. Each word takes its own key: `add_round_key(key, columns.map(mixed_column))` takes half as long again.
+// A round under its key, from the columns after ShiftRows. Each word takes its own key here: `add_round_key(key, columns.map(mixed_column))`
+// takes half as long again, and a block has to be no slower than with mbedTLS's software cipher.
 fn round(key: &[u32; 4], columns: [[u8; 4]; 4]) -> [u32; 4]
     ensures { state_of result ≡ add_round_key key.now 0 (mix_columns (sub_bytes (state_by columns))) }
 {

@@ -1,6 +1,7 @@
 // The key expansion.
 ghost use Rattle.std.specs.Prelude.{◌≡◌};
-ghost use Rattle.aes128.specs.Cipher.{sub_word, rot_word, key_after, schedule, words_by};
+ghost use Rattle.aes128.specs.Cipher.{sub_word, rot_word, schedule};
+ghost use Rattle.aes128.specs.Fours.{key_after, words_by};
 
 use super::rounds::{sub_column, words};
 
@@ -36,7 +37,7 @@ fn next_key(key: &[u32; 4], rcon: u32) -> [u32; 4]
     [a, b, c, d ^ c]
 }
 
-// The key schedule. By places, since each round key comes of the one before it in the same array.
+// The key schedule. By places: of what is written through an adapter of `iter_mut` no proof knows the elements.
 pub(super) fn expand_key(key: &[u8; 16]) -> [[u32; 4]; 11]
     ensures { words_by result ≡ schedule key.now }
 {

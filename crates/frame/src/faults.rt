@@ -16,7 +16,7 @@ pub enum Refusal {
 }
 
 impl Refusal {
-    // A cast in each enum: an impl of a trait of numbers would be longer each time.
+    // A cast under a name of its own: `u8::from` would not say which number it is.
     pub fn number(self) -> u8
         ensures { result ≡ refusal_number self }
     {

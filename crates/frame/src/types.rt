@@ -19,7 +19,7 @@ pub enum Service {
 }
 
 impl Service {
-    // The SVC bits of SEP. A cast in each enum: an impl of a trait of numbers would be longer each time.
+    // The SVC bits of SEP: a cast under a name of its own, since `u8::from` would not say which number it is.
     pub fn code(self) -> u8
         ensures { result ≡ service_code self }
     {
@@ -66,7 +66,7 @@ pub enum MessageKind {
 }
 
 impl MessageKind {
-    // The MSG bits of SEP, by a cast as above.
+    // The MSG bits of SEP: a cast under a name of its own, since `u8::from` would not say which number it is.
     pub fn code(self) -> u8
         ensures { result ≡ message_code self }
     {

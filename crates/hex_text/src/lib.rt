@@ -90,7 +90,8 @@ pub fn decode(heap: Global, text: &[u8]) -> Result<Vec<u8>, HexError>
     }
 }
 
-// Writes bytes as capital digits, two to a byte, with nothing between.
+// Writes bytes as capital digits, two to a byte, with nothing between. By the library's format: a second crate for hexadecimal digits
+// would say the same in one line too.
 #[tactic(auto, using(crate::proofs::Backs::two_capitals, crate::proofs::Backs::spelled_more))]
 pub fn encode(heap: Global, bytes: &[u8]) -> Result<String, AllocError>
     ensures text { IfOk result (λ t. string_bytes t ≡ spelled bytes.now) }

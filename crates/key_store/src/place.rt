@@ -12,7 +12,7 @@ pub struct Label {
 }
 
 // Room for one key. Without a label no key is live here, and the bytes are zeros.
-// The value is no part of the Option: memory for it is fixed, and a place without a key has to hold sixteen zeros.
+// The value is no part of the Option, since a place without a key has to hold sixteen zeros.
 #[derive(Drop)]
 pub struct Place {
     label: Option<Label>,

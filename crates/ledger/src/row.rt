@@ -13,7 +13,7 @@ pub enum RowMark {
 }
 
 impl RowMark {
-    // A cast in each enum: an impl of a trait of numbers would be longer each time.
+    // A cast under a name of its own: `u8::from` would not say which number it is.
     pub fn number(self) -> u8
         ensures { result ≡ mark_number self }
     {
@@ -40,7 +40,7 @@ pub struct Row {
     pub mark: RowMark,
 }
 
-// What lies at a place of a table that is not used.
+// What lies at a place of a table that is not used: `ArrayVec` asks for a default.
 impl Default for Row {
     ghost is_default = { λ row. row ≡ unused_row };
 

@@ -53,7 +53,7 @@ impl Table {
     }
 }
 
-// Changes the one row that is lent.
+// Changes the one row that is lent. It is found by its place, since no proof knows what was written through `iter_mut().find(..)`.
 fn mark_destroyed(row: &mut Row)
     ensures { row.new ≡ marked row.old }
 {

@@ -7,7 +7,8 @@ ghost use Rattle.suite.specs.Calls.{offered, agreed, derived, checked, revealed,
 
 use super::types::{Denial, KindNumbers};
 
-// A role comes as a byte, since a byte that is no role has its answer here too: Unfit.
+// A role comes as a byte, since a byte that is no role has its answer here too: Unfit. What a call writes goes into a lent buffer of
+// fixed memory, with its length as the answer.
 pub trait Suite {
     // What the suite means now.
     ghost meaning: { Self → Meaning };
@@ -65,7 +66,8 @@ pub trait Suite {
         ensures answer { result ≡ length_answer (sealed scheme (meaning self.now) key role number plain.now (length out.old)) }
         ensures buffer { out.new ≡ written (sealed scheme (meaning self.now) key role number plain.now (length out.old)) out.old };
 
-    // Answers role, number and data length of a payload and writes the data; none, and nothing written, if it is not good.
+    // Answers role, number and data length of a payload and writes the data; none, and nothing written, if it is not good. The three are
+    // a tuple of numbers, as the payload has them and the protocol compares them.
     fn open(
         &self,
         key: u32,

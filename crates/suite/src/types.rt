@@ -13,7 +13,7 @@ pub enum Role {
 }
 
 impl Role {
-    // A cast in each enum: an impl of a trait of numbers would be longer each time.
+    // A cast under a name of its own: `u8::from` would not say which number it is.
     pub fn byte(self) -> u8
         ensures { result ≡ role_byte self }
     {
@@ -54,7 +54,7 @@ pub enum KeyKind {
 }
 
 impl KeyKind {
-    // By a cast, as a role's byte.
+    // A cast under a name of its own: `u8::from` would not say which number it is.
     pub fn number(self) -> u8
         ensures { result ≡ kind_number self }
     {
@@ -87,7 +87,7 @@ pub enum Denial {
 }
 
 impl Denial {
-    // By a cast, as a role's byte.
+    // A cast under a name of its own: `u8::from` would not say which number it is.
     pub fn number(self) -> u8
         ensures { result ≡ denial_number self }
     {

@@ -21,7 +21,8 @@ impl fmt::Display for Key {
     }
 }
 
-// The part of a buffer that a call wrote, by the length that it answered: cut, since only a suite's laws bound that length.
+// The part of a buffer that a call wrote, by the length that it answered. Cut at the buffer's: that the length is within it follows
+// from what was written, by a lemma that a program need not carry.
 fn written(out: &[u8; 255], length: usize) -> &[u8] {
     &out[..length.min(255)]
 }

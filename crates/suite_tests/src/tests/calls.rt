@@ -20,7 +20,8 @@ fn room(bytes: &mut [u8; MOST], length: usize) -> &mut [u8] {
     &mut bytes[..length.min(MOST)]
 }
 
-// A suite that is called. These methods have no clauses, and assert in one place: so a test of many calls is checked quickly.
+// A suite that is called. Calls by lengths, which assert in one place: tried, the plain calls of one test make 23 MB of proof instead of
+// 7, and the gate has a bar of time.
 #[derive(Drop)]
 pub struct Calls<'a, R, S> {
     rt: &'a R,

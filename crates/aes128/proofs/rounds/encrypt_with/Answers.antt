@@ -1,5 +1,6 @@
 use Rattle.std.proofs.Common.{◌≡◌, ℕ, ◌+◌, ◌<◌, List, [], get_or, ap, ◌∙◌, add-one, arith}
-use Rattle.aes128.specs.Cipher.{rounds, cipher_with, sub_bytes, shift_rows, mix_columns, add_round_key, state_of, state_by, words_by}
+use Rattle.aes128.specs.Cipher.{rounds, cipher_with, sub_bytes, shift_rows, mix_columns, add_round_key, state_of}
+use Rattle.aes128.specs.Fours.{state_by, words_by}
 use Rattle.aes128.proofs.RoundKeys.{add_key, sub-shift, middle}
 use Rattle.aes128.proofs.rounds.encrypt_with.Goals as goal
 

@@ -1,5 +1,6 @@
 use Rattle.std.proofs.Common.{◌≡◌}
-use Rattle.aes128.specs.Cipher.{rounds, add_round_key, state_of, words_by}
+use Rattle.aes128.specs.Cipher.{rounds, add_round_key, state_of}
+use Rattle.aes128.specs.Fours.{words_by}
 use Rattle.aes128.proofs.rounds.encrypt_with.Given as goal
 
 abbrev pub invariant-loop-key : goal.invariant-loop-key

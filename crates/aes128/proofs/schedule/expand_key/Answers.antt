@@ -1,5 +1,6 @@
 use Rattle.std.proofs.Common.{◌≡◌, ℕ, ◌+◌, ◌*◌, List, [], ◌∷◌, get_or, refl, ap, ◌∙◌, subst, arith, length-set}
-use Rattle.aes128.specs.Cipher.{key_after, key_words, schedule, words_by}
+use Rattle.aes128.specs.Cipher.{key_words, schedule}
+use Rattle.aes128.specs.Fours.{key_after, words_by}
 use Rattle.aes128.proofs.KeySteps.{front, next_key, rcon_at}
 use Rattle.aes128.proofs.schedule.expand_key.Goals as goal
 
