@@ -1,27 +1,46 @@
 // One session between two peers.
-use super::peer::Peer;
+use super::peer::{Key, Peer};
 use super::stopped::Stopped;
 use suite::Suite;
 
 const RECORD: &[u8] = b"chlorine 0.6 mg/l";
 
-pub(super) fn hand_over_one_record<S: Suite, T: Suite>(
+// Each peer agrees on the other's offer.
+fn agree_both<S: Suite, T: Suite>(
     sender: &mut Peer<S>,
     recipient: &mut Peer<T>,
-) -> Result<(), Stopped> {
+) -> Result<(Key, Key), Stopped> {
     let mut sent = [0; 255];
     let mut received = [0; 255];
     let sent = sender.offer(&mut sent)?;
     let received = recipient.offer(&mut received)?;
     let own = sender.agree(received)?;
     let theirs = recipient.agree(sent)?;
+    Ok((own, theirs))
+}
+
+// The Sender seals the record, and the Recipient opens it.
+fn protect<S: Suite, T: Suite>(
+    sender: &Peer<S>,
+    link: Key,
+    recipient: &Peer<T>,
+    their_link: Key,
+) -> Result<(), Stopped> {
+    let mut payload = [0; 255];
+    let payload = sender.seal(link, RECORD, &mut payload)?;
+    recipient.open(their_link, payload)
+}
+
+pub(super) fn hand_over_one_record<S: Suite, T: Suite>(
+    sender: &mut Peer<S>,
+    recipient: &mut Peer<T>,
+) -> Result<(), Stopped> {
+    let (own, theirs) = agree_both(sender, recipient)?;
     sender.check(own)?;
     recipient.check(theirs)?;
     let link = sender.derive(own)?;
     let their_link = recipient.derive(theirs)?;
-    let mut payload = [0; 255];
-    let payload = sender.seal(link, RECORD, &mut payload)?;
-    recipient.open(their_link, payload)?;
+    protect(sender, link, recipient, their_link)?;
     sender.destroy(link)?;
     sender.destroy(own)?;
     recipient.destroy(their_link)?;
