@@ -1,6 +1,7 @@
-pub mod TableRules
-pub mod RoundTables
-pub mod Words
-pub mod RoundKeys
-pub mod KeySteps
+pub mod BlockBytes
 pub mod Inverses
+pub mod KeySteps
+pub mod RoundKeys
+pub mod RoundTables
+pub mod TableRules
+pub mod Words

@@ -1,28 +1,34 @@
--- What the bench suite computes, and what it means.
-use Rattle.std.specs.Prelude.{◌∷◌, length, take, ◌==◌}
-use Rattle.suite.specs.Meanings.{Meaning}
+-- What the bench suite computes: every step can be followed by hand.
+use Rattle.std.specs.Prelude.{ℕ, ◌%◌, List, [], ◌∷◌, map, take, sum, bit_xor, slice_index}
 use Rattle.suite.specs.Schemes.{Scheme}
-use Rattle.key_store.specs.Stores.{kept_meaning}
-use Rattle.bench_suite.specs.declared.bench.Bench.{Bench}
-use Rattle.bench_suite.specs.Payloads.{xored, linked, payload_of, read_of}
+use Rattle.suite_of.specs.Kinds.{Functions, scheme_of}
 
--- no function depends on the root or on a serial
-abbrev pub bench_scheme : Scheme
-bench_scheme = record {
+-- two lists XOR each other, byte by byte
+abbrev pub xored : List ℕ → List ℕ → List ℕ
+xored [] ys = []
+xored (x ∷ xs) [] = []
+xored (x ∷ xs) (y ∷ ys) = bit_xor x y ∷ xored xs ys
+
+-- the link key of a shared secret
+abbrev pub linked : List ℕ → List ℕ
+linked secret = map (λ x. bit_xor x 0x5A) secret
+
+abbrev pub sum_byte : List ℕ → ℕ
+sum_byte xs = sum xs % 256
+
+-- data are XORed with the link key, whose bytes are taken round; the last field is the sum of all before it
+abbrev pub bench_functions : Functions
+bench_functions = record {
   pid = 0xF0;
-  offer_length = 16;
   check_length = 4;
-  overhead = 6;
-  first = 0;
+  field_length = 1;
   final = 65535;
-  offer_of = λ root seed. seed;
-  fit_of = λ root offer. (length offer == 16);
-  secret_of = λ root serial role seed offer. xored seed offer;
-  check_of = λ root serial value role. role ∷ take 3 value;
-  link_of = λ root serial value link. linked value;
-  seal_of = λ root serial key role n plain. payload_of key role n plain;
-  open_of = λ root serial key payload. read_of key payload;
+  secret_of = λ root role own other. xored own other;
+  check_of = λ value role. role ∷ take 3 value;
+  link_of = linked;
+  stream_of = λ link role n i. slice_index link (i % 16);
+  field_of = λ link body. sum_byte body ∷ [];
 }
 
-abbrev pub bench_meaning : Bench → Meaning
-bench_meaning b = kept_meaning b.root b.keys
+abbrev pub bench_scheme : Scheme
+bench_scheme = scheme_of bench_functions

@@ -1,5 +1,3 @@
-pub mod Payloads
 pub mod Benches
 pub mod BenchLaws
-pub mod Masks
-pub mod PayloadLaws
+pub mod Xors

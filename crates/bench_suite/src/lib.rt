@@ -1,8 +1,7 @@
 // The bench suite: XOR, and a sum at the end. It protects nothing: it is for trials.
 #![tactic(auto)]
 
-mod bench;
-mod payload;
-mod xor;
+mod kind;
+mod sums;
 
-pub use bench::Bench;
+pub use kind::{Bench, BenchKind};

@@ -1,0 +1,61 @@
+ghost use Rattle.std.specs.Prelude.{◌≡◌};
+ghost use Rattle.keyed_suite.specs.Keyed.{keyed_functions};
+ghost use Rattle.keyed_suite.specs.KeyedLaws.{keyed_sound};
+
+use super::stream::add_stream;
+use aes128::Aes128;
+use cmac::cmac;
+use suite::{KindNumbers, Role};
+use suite_of::{Kind, SuiteOf};
+
+const NUMBERS: KindNumbers = KindNumbers {
+    pid: 0xF1,
+    offer_length: 16,
+    check_length: 8,
+    overhead: 13,
+    first_number: 0,
+    last_number: 16_777_215,
+};
+
+// The kind of the keyed suite.
+#[derive(Clone, Copy)]
+pub struct Keyed;
+
+pub type KeyedSuite = SuiteOf<Keyed>;
+
+impl Kind for Keyed {
+    ghost functions = { keyed_functions };
+
+    ghost sound = { keyed_sound };
+
+    fn numbers() -> KindNumbers {
+        NUMBERS
+    }
+
+    fn secret(root: &[u8; 16], role: Role, seed: &[u8; 16], offer: &[u8; 16]) -> [u8; 16] {
+        let (first, second) = match role {
+            Role::Sender => (seed, offer),
+            Role::Recipient => (offer, seed),
+        };
+        cmac(root, [*first, *second].as_flattened())
+    }
+
+    fn check(value: &[u8; 16], role: Role) -> [u8; 16] {
+        let mut block = [0; 16];
+        block[0] = role.byte();
+        cmac(value, &block)
+    }
+
+    fn link(value: &[u8; 16]) -> [u8; 16] {
+        cmac(value, &[3; 16])
+    }
+
+    fn stream(value: &[u8; 16], role: Role, number: u32, bytes: &mut [u8]) {
+        let cipher = Aes128::new(&cmac(value, &[5; 16]));
+        add_stream(&cipher, role, number, bytes);
+    }
+
+    fn field(value: &[u8; 16], body: &[u8]) -> [u8; 16] {
+        cmac(&cmac(value, &[4; 16]), body)
+    }
+}

@@ -1,0 +1,46 @@
+ghost use Rattle.std.specs.Prelude.{◌≡◌};
+ghost use Rattle.measured.specs.Repeats.{are_blocks, can_tag, encrypted, tagged};
+
+use aes128::Aes128;
+
+// Encrypts a block under a key, and the outcome again, and so on; false, and nothing done, if one of them has not sixteen bytes.
+#[unsafe(no_mangle)]
+pub extern "C" fn measured_encrypt(key: &[u8], block: &mut [u8], times: u32) -> bool
+    ensures answer { result ≡ are_blocks key.now block.old }
+    ensures block { block.new ≡ encrypted key.now times block.old }
+{
+    let Some(key) = key.as_array() else {
+        return false;
+    };
+    let Some(first) = block.as_array() else {
+        return false;
+    };
+    let cipher = Aes128::new(key);
+    let mut last = *first;
+    for _ in 0..times {
+        last = cipher.encrypt(&last);
+    }
+    block.copy_from_slice(&last);
+    true
+}
+
+// Writes the tag of a text over its front, and again that of the outcome, and so on; false, and nothing done, if the key has not
+// sixteen bytes or the text has fewer.
+#[unsafe(no_mangle)]
+pub extern "C" fn measured_tag(key: &[u8], text: &mut [u8], times: u32) -> bool
+    ensures answer { result ≡ can_tag key.now text.old }
+    ensures text { text.new ≡ tagged key.now times text.old }
+{
+    let Some(key) = key.as_array() else {
+        return false;
+    };
+    if text.len() < 16 {
+        return false;
+    }
+    let cipher = Aes128::new(key);
+    for _ in 0..times {
+        let tag = cmac::tag(&cipher, text);
+        text[..16].copy_from_slice(&tag);
+    }
+    true
+}

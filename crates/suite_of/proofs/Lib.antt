@@ -1,0 +1,4 @@
+pub mod Parts
+pub mod Written
+pub mod StreamTurns
+pub mod Differences

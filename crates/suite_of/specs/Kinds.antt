@@ -1,0 +1,57 @@
+-- A kind of suite by what it computes of roots and of the values of keys: offers are seeds, payloads are as `Payloads` has them.
+use Rattle.std.specs.Prelude.{◌≡◌, ℕ, ◌+◌, ◌<◌, ◌≤◌, true, List, length, ◌==◌}
+use Rattle.suite.specs.Meanings.{Bytes, Bytes16, Meaning}
+use Rattle.suite.specs.Numbers.{role_byte}
+use Rattle.suite.specs.declared.types.Role.TheVariants.{Sender, Recipient}
+use Rattle.suite.specs.Schemes.{Scheme, ok_role}
+use Rattle.suite_of.specs.Payloads.{body_of, closed, read_of}
+
+pub record Functions : Type 0 where
+  pub pid : ℕ
+  pub check_length : ℕ
+  -- how many bytes the last field of a payload has
+  pub field_length : ℕ
+  pub final : ℕ
+  -- root, own role, own seed, the peer's offer
+  pub secret_of : List ℕ → ℕ → List ℕ → List ℕ → List ℕ
+  -- value of the shared secret, role
+  pub check_of : List ℕ → ℕ → List ℕ
+  -- value of the shared secret
+  pub link_of : List ℕ → List ℕ
+  -- value of the link key, role, number, place in the data: the byte that is added to the data's byte
+  pub stream_of : List ℕ → ℕ → ℕ → ℕ → ℕ
+  -- value of the link key, all of a payload but its field
+  pub field_of : List ℕ → List ℕ → List ℕ
+
+abbrev pub scheme_of : Functions → Scheme
+scheme_of k = record {
+  pid = k.pid;
+  offer_length = 16;
+  check_length = k.check_length;
+  overhead = 5 + k.field_length;
+  first = 0;
+  final = k.final;
+  offer_of = λ root seed. seed;
+  fit_of = λ root offer. (length offer == 16);
+  secret_of = λ root serial role seed offer. k.secret_of root role seed offer;
+  check_of = λ root serial value role. k.check_of value role;
+  link_of = λ root serial value link. k.link_of value;
+  seal_of = λ root serial key role n plain. closed (k.field_of key) (body_of (k.stream_of key role n) role n plain);
+  open_of = λ root serial key p. read_of k.field_length (k.field_of key) (k.stream_of key) p;
+}
+
+-- what a kind owes, for roots, seeds and values of sixteen bytes
+pub record Sound (k : Functions) : Type 0 where
+  pub pid_byte : k.pid < 256
+  pub check_bound : k.check_length ≤ 16
+  pub field_bound : k.field_length ≤ 16
+  pub final_low : 0 < k.final
+  pub final_bound : k.final ≤ 16777215
+  pub secret_is : (root seed offer : List ℕ) (role : ℕ) → Bytes16 root → Bytes16 seed → Bytes16 offer → ok_role role ≡ true → Bytes16 (k.secret_of root role seed offer)
+  pub agrees : (root one other : List ℕ) → k.secret_of root (role_byte Sender) one other ≡ k.secret_of root (role_byte Recipient) other one
+  pub check_long : (value : List ℕ) (role : ℕ) → Bytes16 value → ok_role role ≡ true → length (k.check_of value role) ≡ k.check_length
+  pub check_bytes : (value : List ℕ) (role : ℕ) → Bytes16 value → ok_role role ≡ true → Bytes (k.check_of value role)
+  pub link_is : (value : List ℕ) → Bytes16 value → Bytes16 (k.link_of value)
+  pub stream_byte : (value : List ℕ) (role n i : ℕ) → Bytes16 value → k.stream_of value role n i < 256
+  pub field_long : (value body : List ℕ) → Bytes16 value → length (k.field_of value body) ≡ k.field_length
+  pub field_bytes : (value body : List ℕ) → Bytes16 value → Bytes (k.field_of value body)

@@ -1,0 +1,7 @@
+-- Data XOR a stream of bytes.
+use Rattle.std.specs.Prelude.{ℕ, ◌+◌, List, [], ◌∷◌, bit_xor}
+
+-- data from the place i on: each byte XOR the byte of the stream at its place
+abbrev pub streamed : (ℕ → ℕ) → ℕ → List ℕ → List ℕ
+streamed stream i [] = []
+streamed stream i (x ∷ xs) = bit_xor x (stream i) ∷ streamed stream (i + 1) xs

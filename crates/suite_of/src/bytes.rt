@@ -1,0 +1,27 @@
+ghost use Rattle.std.specs.Prelude.{◌≡◌, ◌≤◌, length};
+ghost use Rattle.std.specs.Str.{bytes_eq};
+ghost use Rattle.buffers.specs.Buffers.{over};
+
+// Writes bytes to the front of a buffer, and answers how many.
+pub(super) fn write(bytes: &[u8], out: &mut [u8]) -> usize
+    requires { length bytes.now ≤ length out.old }
+    ensures answer { result ≡ length bytes.now }
+    ensures buffer { out.new ≡ over bytes.now out.old }
+{
+    out[..bytes.len()].copy_from_slice(bytes);
+    bytes.len()
+}
+
+// Whether two fields are the same. Every byte is looked at, wherever they first differ.
+pub(super) fn same(a: &[u8], b: &[u8]) -> bool
+    ensures { result ≡ bytes_eq a.now b.now }
+{
+    if a.len() != b.len() {
+        return false;
+    }
+    let mut difference = 0;
+    for (i, byte) in a.iter().enumerate() {
+        difference |= byte ^ b[i];
+    }
+    difference == 0
+}

@@ -1,0 +1,87 @@
+ghost use Rattle.std.specs.Prelude.{◌≡◌, ◌+◌, ◌≤◌, length, Ok, IfSome};
+ghost use Rattle.std.specs.Option.{option_map};
+ghost use Rattle.buffers.specs.Buffers.{over};
+ghost use Rattle.suite.specs.Calls.{open_answer, open_written};
+ghost use Rattle.suite.specs.Numbers.{role_byte};
+ghost use Rattle.suite_of.specs.Payloads.{body_of, closed, parts_of, read_of};
+
+use super::bytes::{same, write};
+use super::kind::Kind;
+use suite::Role;
+
+// How many bytes the last field of a payload has.
+fn field_length<K: Kind>() -> usize
+    ensures { result ≡ K.functions.field_length }
+{
+    K::numbers().overhead - 5
+}
+
+// Writes all of a payload but its field to the front of a buffer, and answers how many bytes that is.
+fn write_body<K: Kind>(
+    value: &[u8; 16],
+    role: Role,
+    number: u32,
+    plain: &[u8],
+    out: &mut [u8],
+) -> usize
+    requires { length plain.now + 5 ≤ length out.old }
+    ensures answer { result ≡ length plain.now + 5 }
+    ensures buffer { out.new ≡ over (body_of (K.functions.stream_of value.now (role_byte role) number) (role_byte role) number plain.now) out.old }
+{
+    let [a, b, c, d] = number.to_be_bytes();
+    let head = write(&[role.byte(), a, b, c, d], out);
+    let end = head + plain.len();
+    let masked = &mut out[head..end];
+    masked.copy_from_slice(plain);
+    K::stream(value, role, number, masked);
+    end
+}
+
+// Writes the payload that protects the data to the front of a buffer, and answers its length.
+pub(crate) fn write_payload<K: Kind>(
+    value: &[u8; 16],
+    role: Role,
+    number: u32,
+    plain: &[u8],
+    out: &mut [u8],
+) -> usize
+    requires { length plain.now + 21 ≤ length out.old }
+    ensures answer { result ≡ length (closed (K.functions.field_of value.now) (body_of (K.functions.stream_of value.now (role_byte role) number) (role_byte role) number plain.now)) }
+    ensures buffer { out.new ≡ over (closed (K.functions.field_of value.now) (body_of (K.functions.stream_of value.now (role_byte role) number) (role_byte role) number plain.now)) out.old }
+{
+    let end = write_body::<K>(value, role, number, plain, out);
+    let field = K::field(value, &out[..end]);
+    end + write(&field[..field_length::<K>()], &mut out[end..])
+}
+
+// Role, number and masked data of a payload; none if it is not good.
+fn parts<'a, K: Kind>(value: &[u8; 16], payload: &'a [u8]) -> Option<(Role, u32, &'a [u8])>
+    ensures fits { IfSome result (λ t. length t.2.now ≤ length payload.now) }
+    ensures parts { option_map (λ t. (role_byte t.0, t.1, t.2.now)) result ≡ parts_of K.functions.field_length (K.functions.field_of value.now) payload.now }
+{
+    let (body, field) = payload.split_at_checked(payload.len().checked_sub(field_length::<K>())?)?;
+    let [role, a, b, c, d, masked @ ..] = body else {
+        return None;
+    };
+    let role = Role::try_from(*role).ok()?;
+    if !same(field, &K::field(value, body)[..field_length::<K>()]) {
+        return None;
+    }
+    Some((role, u32::from_be_bytes([*a, *b, *c, *d]), masked))
+}
+
+// Answers role, number and data length of a payload and writes the data; none, and nothing written, if it is not good.
+pub(crate) fn read_payload<K: Kind>(
+    value: &[u8; 16],
+    payload: &[u8],
+    out: &mut [u8],
+) -> Option<(u8, u32, usize)>
+    requires { length payload.now ≤ length out.old }
+    ensures answer { Ok result ≡ open_answer (Ok (read_of K.functions.field_length (K.functions.field_of value.now) (K.functions.stream_of value.now) payload.now)) }
+    ensures buffer { out.new ≡ open_written (Ok (read_of K.functions.field_length (K.functions.field_of value.now) (K.functions.stream_of value.now) payload.now)) out.old }
+{
+    let (role, number, masked) = parts::<K>(value, payload)?;
+    let n = write(masked, out);
+    K::stream(value, role, number, &mut out[..n]);
+    Some((role.byte(), number, n))
+}
