@@ -1,7 +1,7 @@
 // The rounds, on words: the four columns of the state, the byte of row 0 highest.
 ghost use Rattle.std.specs.Prelude.{◌≡◌, [], ◌∷◌, slice_index};
 ghost use Rattle.aes128.specs.Field.{sub_byte};
-ghost use Rattle.aes128.specs.Words.{byte_of, word_bytes, word_of, xor_bytes};
+ghost use Rattle.aes128.specs.Words.{word_bytes, word_of};
 ghost use Rattle.aes128.specs.Cipher.{block as block_by, mix_column, sub_bytes, shift_rows, mix_columns, add_round_key, key_words, state_of, state_by, words_by, cipher_with};
 
 use super::tables::{mixed, sbox};
@@ -100,27 +100,21 @@ fn sub_columns(columns: [[u8; 4]; 4]) -> [u32; 4]
     columns.map(sub_column)
 }
 
-// A round under its key, from the columns after ShiftRows. Each word takes its own key: `add_round_key(key, columns.map(mixed_column))` takes half as long again.
-fn round(key: &[u32; 4], columns: [[u8; 4]; 4]) -> [u32; 4]
-    ensures { state_of result ≡ add_round_key key.now 0 (mix_columns (sub_bytes (state_by columns))) }
+// SubBytes and MixColumns at every column.
+fn mixed_columns(columns: [[u8; 4]; 4]) -> [u32; 4]
+    ensures { state_of result ≡ mix_columns (sub_bytes (state_by columns)) }
 {
-    let [a, b, c, d] = columns;
-    let [k0, k1, k2, k3] = *key;
-    [
-        mixed_column(a) ^ k0,
-        mixed_column(b) ^ k1,
-        mixed_column(c) ^ k2,
-        mixed_column(d) ^ k3,
-    ]
+    columns.map(mixed_column)
 }
 
-// One block, under a key that is expanded.
+// One block, under a key that is expanded. Each round begins with its key: where it ends with the next one, the compiler makes vectors of the state, which takes a third longer.
 pub(super) fn encrypt_with(keys: &[[u32; 4]; 11], input: &[u8; 16]) -> [u8; 16]
     ensures { result ≡ cipher_with (words_by keys.now) input.now }
 {
-    let mut s = add_round_key(&keys[0], words(input));
-    for key in &keys[1..10] {
-        s = round(key, shifted(s));
+    let mut s = words(input);
+    for key in &keys[..9] {
+        s = mixed_columns(shifted(add_round_key(key, s)));
     }
-    state_bytes(add_round_key(&keys[10], sub_columns(shifted(s))))
+    s = sub_columns(shifted(add_round_key(&keys[9], s)));
+    state_bytes(add_round_key(&keys[10], s))
 }
