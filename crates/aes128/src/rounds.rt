@@ -37,29 +37,44 @@ pub(super) fn words(block: &[u8; 16]) -> [u32; 4]
     ]
 }
 
+// The columns of a state, byte by byte.
+fn columns(s: [u32; 4]) -> [[u8; 4]; 4]
+    ensures { state_by result ≡ state_of s }
+{
+    let [a, b, c, d] = s;
+    [
+        a.to_be_bytes(),
+        b.to_be_bytes(),
+        c.to_be_bytes(),
+        d.to_be_bytes(),
+    ]
+}
+
 // The sixteen bytes of four words.
 fn state_bytes(s: [u32; 4]) -> [u8; 16]
     ensures { result ≡ state_of s }
 {
-    let [a, b, c, d] = s;
-    let [a0, a1, a2, a3] = a.to_be_bytes();
-    let [b0, b1, b2, b3] = b.to_be_bytes();
-    let [c0, c1, c2, c3] = c.to_be_bytes();
-    let [d0, d1, d2, d3] = d.to_be_bytes();
+    let [
+        [a0, a1, a2, a3],
+        [b0, b1, b2, b3],
+        [c0, c1, c2, c3],
+        [d0, d1, d2, d3],
+    ] = columns(s);
     [
         a0, a1, a2, a3, b0, b1, b2, b3, c0, c1, c2, c3, d0, d1, d2, d3,
     ]
 }
 
-// The columns after ShiftRows, byte by byte.
+// The columns after ShiftRows.
 fn shifted(s: [u32; 4]) -> [[u8; 4]; 4]
     ensures { state_by result ≡ shift_rows (state_of s) }
 {
-    let [a, b, c, d] = s;
-    let [a0, a1, a2, a3] = a.to_be_bytes();
-    let [b0, b1, b2, b3] = b.to_be_bytes();
-    let [c0, c1, c2, c3] = c.to_be_bytes();
-    let [d0, d1, d2, d3] = d.to_be_bytes();
+    let [
+        [a0, a1, a2, a3],
+        [b0, b1, b2, b3],
+        [c0, c1, c2, c3],
+        [d0, d1, d2, d3],
+    ] = columns(s);
     [
         [a0, b1, c2, d3],
         [b0, c1, d2, a3],

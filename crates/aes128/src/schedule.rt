@@ -36,7 +36,7 @@ fn next_key(key: &[u32; 4], rcon: u32) -> [u32; 4]
     [a, b, c, d ^ c]
 }
 
-// The key schedule.
+// The key schedule, each key from the one before it in the array.
 pub(super) fn expand_key(key: &[u8; 16]) -> [[u32; 4]; 11]
     ensures { words_by result ≡ schedule key.now }
 {
