@@ -11,29 +11,11 @@ pub(super) fn words(block: &[u8; 16]) -> [u32; 4]
     ensures value { result ≡ key_words block.now 0 }
     ensures bytes { state_of result ≡ block_by (λ k. slice_index block.now k) }
 {
-    let [
-        a0,
-        a1,
-        a2,
-        a3,
-        b0,
-        b1,
-        b2,
-        b3,
-        c0,
-        c1,
-        c2,
-        c3,
-        d0,
-        d1,
-        d2,
-        d3,
-    ] = *block;
     [
-        u32::from_be_bytes([a0, a1, a2, a3]),
-        u32::from_be_bytes([b0, b1, b2, b3]),
-        u32::from_be_bytes([c0, c1, c2, c3]),
-        u32::from_be_bytes([d0, d1, d2, d3]),
+        u32::from_be_bytes([block[0], block[1], block[2], block[3]]),
+        u32::from_be_bytes([block[4], block[5], block[6], block[7]]),
+        u32::from_be_bytes([block[8], block[9], block[10], block[11]]),
+        u32::from_be_bytes([block[12], block[13], block[14], block[15]]),
     ]
 }
 
