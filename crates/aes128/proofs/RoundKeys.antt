@@ -1,6 +1,5 @@
 -- Laws of round keys: their words, and the key that a round adds.
-use Rattle.std.proofs.Common.{◌≡◌, ℕ, ◌+◌, ◌*◌, ◌/◌, ◌%◌, ◌<◌, List, [], get_or, take, drop, ◌∙◌, arith}
-use Rattle.std.proofs.lemmas.Grind.{common_steps}
+use Rattle.std.proofs.Common.{◌≡◌, ℕ, ◌+◌, ◌*◌, ◌/◌, ◌%◌, ◌<◌, List, [], get_or, ◌∙◌, arith}
 use Rattle.std.proofs.lemmas.List.FromFn.{get_or-map-range_with_len}
 use Rattle.aes128.specs.Cipher.{add_round_key, sub_bytes, shift_rows}
 use Rattle.aes128.specs.Fours.{in_fours, words_by}
@@ -29,7 +28,3 @@ add_key keys n s h =
 pub sub-shift : (s : List ℕ) → sub_bytes (shift_rows s) ≡ shift_rows (sub_bytes s)
 unfolding sub_bytes shift_rows
 sub-shift s = cc
-
--- the keys after the first, by their places
-pub middle : (keys : List (List ℕ)) (m i : ℕ) → i < m → get_or (take m (drop 1 keys)) i [] ≡ get_or keys (i + 1) []
-middle keys m i h = grind (arith, common_steps)

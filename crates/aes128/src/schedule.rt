@@ -37,7 +37,7 @@ fn next_key(key: &[u32; 4], rcon: u32) -> [u32; 4]
     [a, b, c, d ^ c]
 }
 
-// The key schedule. By places: of what is written through an adapter of `iter_mut` no proof knows the elements.
+// The key schedule, each key from the one before it. By places: no proof knows what is written through an adapter of `iter_mut`.
 pub(super) fn expand_key(key: &[u8; 16]) -> [[u32; 4]; 11]
     ensures { words_by result ≡ schedule key.now }
 {

@@ -1,11 +1,11 @@
 -- Laws of blocks.
 use Rattle.aes128.specs.Cipher.{block, cipher_with}
-use Rattle.std.proofs.Common.{◌≡◌, ℕ, zero, suc, ◌+◌, ◌-◌, ◌*◌, ◌/◌, ◌%◌, ◌<◌, ◌≤◌, Bool, true, false, cond, eqb, List, ◌++◌, length, get_or, take, drop, set, replicate, sym, ap, ◌∙◌, refl, arith, length-drop, eq-eqb, ne_eqb}
+use Rattle.std.proofs.Common.{◌≡◌, ℕ, zero, suc, ◌+◌, ◌-◌, ◌*◌, ◌/◌, ◌%◌, ◌<◌, ◌≤◌, Bool, true, false, cond, eqb, List, ◌++◌, length, get_or, take, drop, set, replicate, sym, ap, ◌∙◌, refl, arith, length-drop, eq-eqb, ne_eqb, lt-ltb, le-ltb}
 use Rattle.std.proofs.lemmas.Bool.{eqb-true}
 use Rattle.std.proofs.lemmas.Grind.{common_steps}
 use Rattle.std.proofs.lemmas.List.{get_or-drop, get_or-take, length-take-le}
 use Rattle.std.proofs.lemmas.List.FromFn.{fill_by_all}
-use Rattle.cmac.specs.Cmac.{xor_block, block_at, pad_byte, padding, chain, before, last_block, subkey1, subkey2}
+use Rattle.cmac.specs.Cmac.{xor_block, shift_left, rb, double, block_at, pad_byte, padding, chain, before, last_block, subkey1, subkey2}
 
 -- sixteen bytes that are given by their places
 pub block_of : (f : ℕ → ℕ) (xs : List ℕ) → length xs ≡ 16 → ((k : ℕ) → k < 16 → get_or xs k 0 ≡ f k) → xs ≡ block f
@@ -76,3 +76,16 @@ more ws m rest b x y d e w h a r t c g =
     let at = block_at-take m d h in
     let step : y ≡ cipher_with ws (xor_block (chain ws m (d / 16)) (block_at m (16 * (d / 16)))) = cc in
     step ∙ ap (chain ws m) (sym next)
+
+-- doubling, where no bit falls out and where one does
+pub doubled_low : (s t : List ℕ) → get_or s 0 0 < 128 → t ≡ shift_left s → t ≡ double s
+unfolding double
+doubled_low s t h e =
+    let test = lt-ltb (get_or s 0 0) 128 h in
+    cc
+
+pub doubled_high : (s t x : List ℕ) → 128 ≤ get_or s 0 0 → t ≡ shift_left s → x ≡ xor_block t rb → x ≡ double s
+unfolding double
+doubled_high s t x h e f =
+    let test = le-ltb (get_or s 0 0) 128 h in
+    cc

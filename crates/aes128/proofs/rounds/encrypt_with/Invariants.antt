@@ -4,4 +4,6 @@ use Rattle.aes128.specs.Fours.{words_by}
 use Rattle.aes128.proofs.rounds.encrypt_with.Given as goal
 
 abbrev pub invariant-loop-key : goal.invariant-loop-key
-invariant-loop-key l = state_of l.s ≡ rounds (words_by l.keys) l.key-index (add_round_key (words_by l.keys) 0 l.input)
+invariant-loop-key l =
+    let ws = words_by l.keys in
+    add_round_key ws l.key-index (state_of l.s) ≡ rounds ws l.key-index (add_round_key ws 0 l.input)
