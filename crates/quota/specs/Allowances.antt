@@ -1,12 +1,8 @@
 -- What a quota means, by what the suite below it means.
 use Rattle.std.specs.Prelude.{ℕ, ◌+◌, min, Ok, Err, Result}
 use Rattle.suite.specs.declared.types.Denial.{Denial}
-use Rattle.suite.specs.Meanings.{Meaning}
+use Rattle.suite.specs.Meanings.{Meaning, with_last}
 use Rattle.quota.specs.declared.layer.Quota.{Quota}
-
--- the same meaning with another last serial
-abbrev pub with_last : Meaning → ℕ → Meaning
-with_last m last = record { root = m.root; last = last; newest = m.newest; live = m.live }
 
 -- at most k further keys: the last serial is the smaller of the one below and the newest serial plus k
 abbrev pub limited : Meaning → ℕ → Meaning

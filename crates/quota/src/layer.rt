@@ -1,11 +1,11 @@
 ghost use Rattle.std.specs.Prelude.{◌≡◌, ◌+◌, min, replicate, is_some, Err};
-ghost use Rattle.suite.specs.declared.types.KeyKind.TheVariants.{SharedSecret, LinkKey};
-ghost use Rattle.suite.specs.Meanings.{value_in};
-ghost use Rattle.suite.specs.Calls.{agreed, derived, serial_answer, after_making, destroy_answer, after_destroy};
-ghost use Rattle.quota.specs.Allowances.{with_last, limited, quota_meaning, keys_made};
+ghost use Rattle.suite.specs.declared.types.KeyKind.TheVariants.{SharedSecret};
+ghost use Rattle.suite.specs.Calls.{agreed, derived, after_making, after_destroy};
+ghost use Rattle.suite.specs.Meanings.{value_in, with_last};
+ghost use Rattle.quota.specs.Allowances.{limited, quota_meaning, keys_made};
 ghost use Rattle.quota.specs.AllowanceLaws.{limited-formed};
 
-use suite::{Denial, KindNumbers, Role, Suite};
+use suite::{Denial, Layer, Role, Suite};
 
 // A suite with an allowance of further keys.
 pub struct Quota<S> {
@@ -39,7 +39,7 @@ impl<S: Suite> Quota<S> {
     {
         if seed.len() != 16 || Role::try_from(role).is_err() {
             Denial::Unfit
-        } else if !self.is_fit(offer) {
+        } else if !self.below.is_fit(offer) {
             Denial::BadOffer
         } else {
             Denial::Spent
@@ -70,47 +70,30 @@ impl<S: Suite> Quota<S> {
     }
 }
 
-// What changes nothing is handed down by hand: outside `suite` no impl of `Suite` may be for every layer alike.
-// What changes it repeats the trait's clauses, since clauses here stand in place of those, and says more: what the suite below means
-// after, and what is left of the allowance.
-impl<S: Suite> Suite for Quota<S> {
+// Beside what every layer promises: what the suite below means after, and what is left of the allowance.
+impl<S: Suite> Layer for Quota<S> {
+    type Below = S;
+
     ghost meaning = { quota_meaning S.meaning };
 
-    ghost scheme = { S.scheme };
+    ghost made = { λ x kind value result y. (S.meaning y.below ≡ after_making (S.meaning x.below) kind value) × (y.left + keys_made result ≡ x.left) };
 
-    ghost lawful = { S.lawful };
+    ghost destroyed = { λ x key result y. (S.meaning y.below ≡ after_destroy (S.meaning x.below) key) × (y.left ≡ x.left) };
 
     ghost formed = { λ x. limited-formed (S.meaning x.below) x.left (S.formed x.below) };
 
-    fn numbers() -> KindNumbers {
-        S::numbers()
+    fn below(&self) -> &S {
+        &self.below
     }
 
-    fn newest_serial(&self) -> u32 {
-        self.below.newest_serial()
-    }
-
-    fn last_serial(&self) -> u32 {
-        let newest = self.newest_serial();
+    fn last_through(&self) -> u32 {
+        let newest = self.below.newest_serial();
         let unused = self.below.last_serial() - newest;
         newest + unused.min(self.left)
     }
 
-    fn is_fit(&self, offer: &[u8]) -> bool {
-        self.below.is_fit(offer)
-    }
-
-    fn offer(&self, seed: &[u8], out: &mut [u8]) -> Result<usize, Denial> {
-        self.below.offer(seed, out)
-    }
-
     // One method for both calls that make a key, with the call below as a closure, needs four clauses to save four lines.
-    fn agree(&mut self, seed: &[u8], offer: &[u8], role: u8) -> Result<u32, Denial>
-        ensures answer { result ≡ serial_answer (quota_meaning S.meaning self.old) (agreed S.scheme (quota_meaning S.meaning self.old) seed.now offer.now role) }
-        ensures after { quota_meaning S.meaning self.new ≡ after_making (quota_meaning S.meaning self.old) SharedSecret (agreed S.scheme (quota_meaning S.meaning self.old) seed.now offer.now role) }
-        ensures below { S.meaning self.new.below ≡ after_making (S.meaning self.old.below) SharedSecret (agreed S.scheme (quota_meaning S.meaning self.old) seed.now offer.now role) }
-        ensures left { self.new.left + keys_made result ≡ self.old.left }
-    {
+    fn agree_through(&mut self, seed: &[u8], offer: &[u8], role: u8) -> Result<u32, Denial> {
         if self.left == 0 {
             return Err(self.agree_denial(seed, offer, role));
         }
@@ -119,12 +102,7 @@ impl<S: Suite> Suite for Quota<S> {
         Ok(serial)
     }
 
-    fn derive(&mut self, key: u32) -> Result<u32, Denial>
-        ensures answer { result ≡ serial_answer (quota_meaning S.meaning self.old) (derived S.scheme (quota_meaning S.meaning self.old) key) }
-        ensures after { quota_meaning S.meaning self.new ≡ after_making (quota_meaning S.meaning self.old) LinkKey (derived S.scheme (quota_meaning S.meaning self.old) key) }
-        ensures below { S.meaning self.new.below ≡ after_making (S.meaning self.old.below) LinkKey (derived S.scheme (quota_meaning S.meaning self.old) key) }
-        ensures left { self.new.left + keys_made result ≡ self.old.left }
-    {
+    fn derive_through(&mut self, key: u32) -> Result<u32, Denial> {
         if self.left == 0 {
             return Err(self.derive_denial(key));
         }
@@ -133,40 +111,7 @@ impl<S: Suite> Suite for Quota<S> {
         Ok(serial)
     }
 
-    fn check(&self, key: u32, role: u8, out: &mut [u8]) -> Result<usize, Denial> {
-        self.below.check(key, role, out)
-    }
-
-    fn reveal(&self, key: u32, out: &mut [u8]) -> Result<usize, Denial> {
-        self.below.reveal(key, out)
-    }
-
-    fn seal(
-        &self,
-        key: u32,
-        role: u8,
-        number: u32,
-        plain: &[u8],
-        out: &mut [u8],
-    ) -> Result<usize, Denial> {
-        self.below.seal(key, role, number, plain, out)
-    }
-
-    fn open(
-        &self,
-        key: u32,
-        payload: &[u8],
-        out: &mut [u8],
-    ) -> Result<Option<(u8, u32, usize)>, Denial> {
-        self.below.open(key, payload, out)
-    }
-
-    fn destroy(&mut self, key: u32) -> Result<(), Denial>
-        ensures answer { result ≡ destroy_answer (quota_meaning S.meaning self.old) key }
-        ensures after { quota_meaning S.meaning self.new ≡ after_destroy (quota_meaning S.meaning self.old) key }
-        ensures below { S.meaning self.new.below ≡ after_destroy (S.meaning self.old.below) key }
-        ensures left { self.new.left ≡ self.old.left }
-    {
+    fn destroy_through(&mut self, key: u32) -> Result<(), Denial> {
         self.below.destroy(key)
     }
 }

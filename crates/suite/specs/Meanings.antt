@@ -24,6 +24,10 @@ pub record Meaning : Type 0 where
   pub newest : ℕ
   pub live : List Key
 
+-- the same meaning with another last serial
+abbrev pub with_last : Meaning → ℕ → Meaning
+with_last m last = record { root = m.root; last = last; newest = m.newest; live = m.live }
+
 abbrev pub same_kind : KeyKind → KeyKind → Bool
 same_kind k j = kind_number k == kind_number j
 

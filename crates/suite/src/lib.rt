@@ -1,8 +1,10 @@
 // A cipher suite by what it means: the interface that every suite and every layer over one implements.
 #![tactic(auto)]
 
+mod layer;
 mod suite_trait;
 mod types;
 
+pub use layer::Layer;
 pub use suite_trait::Suite;
 pub use types::{Denial, KeyKind, KindNumbers, Role};

@@ -1,8 +1,7 @@
 ghost use Rattle.std.specs.Prelude.{◌≡◌, ◌+◌, ◌≤◌, min, [], None};
 ghost use Rattle.std.specs.List.{slice_get};
-ghost use Rattle.suite.specs.declared.types.KeyKind.TheVariants.{SharedSecret, LinkKey};
-ghost use Rattle.suite.specs.Calls.{agreed, derived, serial_answer, after_making, destroy_answer, after_destroy};
-ghost use Rattle.quota.specs.Allowances.{with_last};
+ghost use Rattle.suite.specs.Meanings.{with_last};
+ghost use Rattle.suite.specs.Calls.{after_making, after_destroy};
 ghost use Rattle.quota.specs.AllowanceLaws.{limited-formed};
 ghost use Rattle.ledger.specs.Rows.{entered, struck_by, Told};
 ghost use Rattle.ledger.specs.Ledgers.{ledger_meaning, rows_of, StillTold};
@@ -11,7 +10,7 @@ use super::Ledger;
 use crate::row::Row;
 use crate::table::Table;
 use quota::Quota;
-use suite::{Denial, KeyKind, KindNumbers, Suite};
+use suite::{Denial, KeyKind, Layer, Suite};
 
 impl<S: Suite> Ledger<S> {
     // Puts a ledger over a suite.
@@ -51,98 +50,40 @@ impl<S: Suite> Ledger<S> {
     }
 }
 
-// What changes nothing is handed down by hand: outside `suite` no impl of `Suite` may be for every layer alike.
-// What changes it repeats the trait's clauses, since clauses here stand in place of those, and says more: what the suite below means
-// after, what the rows are, and that they still tell of the keys.
-impl<S: Suite> Suite for Ledger<S> {
+// Beside what every layer promises: what the suite below means after, what the rows are, and that they still tell of the keys.
+impl<S: Suite> Layer for Ledger<S> {
+    type Below = S;
+
     ghost meaning = { ledger_meaning S.meaning };
 
-    ghost scheme = { S.scheme };
+    ghost made = { λ x kind value result y. (S.meaning y.below.below ≡ after_making (S.meaning x.below.below) kind value) × (rows_of y ≡ entered kind result (rows_of x)) × StillTold S.meaning x y };
 
-    ghost lawful = { S.lawful };
+    ghost destroyed = { λ x key result y. (S.meaning y.below.below ≡ after_destroy (S.meaning x.below.below) key) × (rows_of y ≡ struck_by key result (rows_of x)) × StillTold S.meaning x y };
 
     ghost formed = { λ x. limited-formed (S.meaning x.below.below) x.below.left (S.formed x.below.below) };
 
-    fn numbers() -> KindNumbers {
-        S::numbers()
+    fn below(&self) -> &S {
+        self.below.below()
     }
 
-    fn newest_serial(&self) -> u32 {
-        self.below.newest_serial()
-    }
-
-    fn last_serial(&self) -> u32 {
+    fn last_through(&self) -> u32 {
         self.below.last_serial()
     }
 
-    fn is_fit(&self, offer: &[u8]) -> bool {
-        self.below.is_fit(offer)
-    }
-
-    fn offer(&self, seed: &[u8], out: &mut [u8]) -> Result<usize, Denial> {
-        self.below.offer(seed, out)
-    }
-
     // One method for both calls that make a key, with the call below as a closure, needs four clauses and a longer proof to save four lines.
-    fn agree(&mut self, seed: &[u8], offer: &[u8], role: u8) -> Result<u32, Denial>
-        ensures answer { result ≡ serial_answer (ledger_meaning S.meaning self.old) (agreed S.scheme (ledger_meaning S.meaning self.old) seed.now offer.now role) }
-        ensures after { ledger_meaning S.meaning self.new ≡ after_making (ledger_meaning S.meaning self.old) SharedSecret (agreed S.scheme (ledger_meaning S.meaning self.old) seed.now offer.now role) }
-        ensures below { S.meaning self.new.below.below ≡ after_making (S.meaning self.old.below.below) SharedSecret (agreed S.scheme (ledger_meaning S.meaning self.old) seed.now offer.now role) }
-        ensures rows { rows_of self.new ≡ entered SharedSecret result (rows_of self.old) }
-        ensures told { StillTold S.meaning self.old self.new }
-    {
+    fn agree_through(&mut self, seed: &[u8], offer: &[u8], role: u8) -> Result<u32, Denial> {
         let serial = self.below.agree(seed, offer, role)?;
         self.table.enter(serial, KeyKind::SharedSecret);
         Ok(serial)
     }
 
-    fn derive(&mut self, key: u32) -> Result<u32, Denial>
-        ensures answer { result ≡ serial_answer (ledger_meaning S.meaning self.old) (derived S.scheme (ledger_meaning S.meaning self.old) key) }
-        ensures after { ledger_meaning S.meaning self.new ≡ after_making (ledger_meaning S.meaning self.old) LinkKey (derived S.scheme (ledger_meaning S.meaning self.old) key) }
-        ensures below { S.meaning self.new.below.below ≡ after_making (S.meaning self.old.below.below) LinkKey (derived S.scheme (ledger_meaning S.meaning self.old) key) }
-        ensures rows { rows_of self.new ≡ entered LinkKey result (rows_of self.old) }
-        ensures told { StillTold S.meaning self.old self.new }
-    {
+    fn derive_through(&mut self, key: u32) -> Result<u32, Denial> {
         let serial = self.below.derive(key)?;
         self.table.enter(serial, KeyKind::LinkKey);
         Ok(serial)
     }
 
-    fn check(&self, key: u32, role: u8, out: &mut [u8]) -> Result<usize, Denial> {
-        self.below.check(key, role, out)
-    }
-
-    fn reveal(&self, key: u32, out: &mut [u8]) -> Result<usize, Denial> {
-        self.below.reveal(key, out)
-    }
-
-    fn seal(
-        &self,
-        key: u32,
-        role: u8,
-        number: u32,
-        plain: &[u8],
-        out: &mut [u8],
-    ) -> Result<usize, Denial> {
-        self.below.seal(key, role, number, plain, out)
-    }
-
-    fn open(
-        &self,
-        key: u32,
-        payload: &[u8],
-        out: &mut [u8],
-    ) -> Result<Option<(u8, u32, usize)>, Denial> {
-        self.below.open(key, payload, out)
-    }
-
-    fn destroy(&mut self, key: u32) -> Result<(), Denial>
-        ensures answer { result ≡ destroy_answer (ledger_meaning S.meaning self.old) key }
-        ensures after { ledger_meaning S.meaning self.new ≡ after_destroy (ledger_meaning S.meaning self.old) key }
-        ensures below { S.meaning self.new.below.below ≡ after_destroy (S.meaning self.old.below.below) key }
-        ensures rows { rows_of self.new ≡ struck_by key result (rows_of self.old) }
-        ensures told { StillTold S.meaning self.old self.new }
-    {
+    fn destroy_through(&mut self, key: u32) -> Result<(), Denial> {
         self.below.destroy(key)?;
         self.table.strike(key);
         Ok(())

@@ -1,0 +1,128 @@
+ghost use Rattle.std.specs.Prelude.{◌≡◌, ℕ, List, Result};
+ghost use Rattle.suite.specs.declared.types.Denial.{Denial};
+ghost use Rattle.suite.specs.declared.types.KeyKind.{KeyKind};
+ghost use Rattle.suite.specs.declared.types.KeyKind.TheVariants.{SharedSecret, LinkKey};
+ghost use Rattle.suite.specs.Meanings.{Meaning, WellFormed, with_last};
+ghost use Rattle.suite.specs.Calls.{agreed, derived, serial_answer, after_making, destroy_answer, after_destroy};
+
+use super::suite_trait::Suite;
+use super::types::{Denial, KindNumbers};
+
+// A suite over another. What changes its keys goes through it, and all else is asked of the suite below.
+pub trait Layer {
+    type Below: Suite;
+
+    ghost meaning: { Self → Meaning };
+
+    // What else a layer promises of a making, by the key's value and the answer, and of a destroying.
+    ghost made: { Self → KeyKind → Result (List ℕ) Denial → Result ℕ Denial → Self → Type 0 };
+
+    ghost destroyed: { Self → ℕ → Result (Unit {0}) Denial → Self → Type 0 };
+
+    // In all but the last serial a layer means what the suite below it means.
+    fn below(&self) -> &Self::Below
+        ensures { meaning self.now ≡ with_last (Self.Below.meaning result.now) (meaning self.now).last };
+
+    fn last_through(&self) -> u32
+        ensures { result ≡ (meaning self.now).last };
+
+    fn agree_through(&mut self, seed: &[u8], offer: &[u8], role: u8) -> Result<u32, Denial>
+        ensures answer { result ≡ serial_answer (meaning self.old) (agreed Self.Below.scheme (meaning self.old) seed.now offer.now role) }
+        ensures after { meaning self.new ≡ after_making (meaning self.old) SharedSecret (agreed Self.Below.scheme (meaning self.old) seed.now offer.now role) }
+        ensures made { made self.old SharedSecret (agreed Self.Below.scheme (meaning self.old) seed.now offer.now role) result self.new };
+
+    fn derive_through(&mut self, key: u32) -> Result<u32, Denial>
+        ensures answer { result ≡ serial_answer (meaning self.old) (derived Self.Below.scheme (meaning self.old) key) }
+        ensures after { meaning self.new ≡ after_making (meaning self.old) LinkKey (derived Self.Below.scheme (meaning self.old) key) }
+        ensures made { made self.old LinkKey (derived Self.Below.scheme (meaning self.old) key) result self.new };
+
+    fn destroy_through(&mut self, key: u32) -> Result<(), Denial>
+        ensures answer { result ≡ destroy_answer (meaning self.old) key }
+        ensures after { meaning self.new ≡ after_destroy (meaning self.old) key }
+        ensures destroyed { destroyed self.old key result self.new };
+
+    ghost formed: { (x : Self) → WellFormed (meaning x) };
+}
+
+// What changes a key repeats the trait's clauses, since clauses here stand in place of those, and says what the layer promises beside.
+impl<L: Layer> Suite for L {
+    ghost meaning = { L.meaning };
+
+    ghost scheme = { L.Below.scheme };
+
+    ghost lawful = { L.Below.lawful };
+
+    ghost formed = { L.formed };
+
+    fn numbers() -> KindNumbers {
+        L::Below::numbers()
+    }
+
+    fn newest_serial(&self) -> u32 {
+        self.below().newest_serial()
+    }
+
+    fn last_serial(&self) -> u32 {
+        self.last_through()
+    }
+
+    fn is_fit(&self, offer: &[u8]) -> bool {
+        self.below().is_fit(offer)
+    }
+
+    fn offer(&self, seed: &[u8], out: &mut [u8]) -> Result<usize, Denial> {
+        self.below().offer(seed, out)
+    }
+
+    fn agree(&mut self, seed: &[u8], offer: &[u8], role: u8) -> Result<u32, Denial>
+        ensures answer { result ≡ serial_answer (L.meaning self.old) (agreed L.Below.scheme (L.meaning self.old) seed.now offer.now role) }
+        ensures after { L.meaning self.new ≡ after_making (L.meaning self.old) SharedSecret (agreed L.Below.scheme (L.meaning self.old) seed.now offer.now role) }
+        ensures made { L.made self.old SharedSecret (agreed L.Below.scheme (L.meaning self.old) seed.now offer.now role) result self.new }
+    {
+        self.agree_through(seed, offer, role)
+    }
+
+    fn derive(&mut self, key: u32) -> Result<u32, Denial>
+        ensures answer { result ≡ serial_answer (L.meaning self.old) (derived L.Below.scheme (L.meaning self.old) key) }
+        ensures after { L.meaning self.new ≡ after_making (L.meaning self.old) LinkKey (derived L.Below.scheme (L.meaning self.old) key) }
+        ensures made { L.made self.old LinkKey (derived L.Below.scheme (L.meaning self.old) key) result self.new }
+    {
+        self.derive_through(key)
+    }
+
+    fn check(&self, key: u32, role: u8, out: &mut [u8]) -> Result<usize, Denial> {
+        self.below().check(key, role, out)
+    }
+
+    fn reveal(&self, key: u32, out: &mut [u8]) -> Result<usize, Denial> {
+        self.below().reveal(key, out)
+    }
+
+    fn seal(
+        &self,
+        key: u32,
+        role: u8,
+        number: u32,
+        plain: &[u8],
+        out: &mut [u8],
+    ) -> Result<usize, Denial> {
+        self.below().seal(key, role, number, plain, out)
+    }
+
+    fn open(
+        &self,
+        key: u32,
+        payload: &[u8],
+        out: &mut [u8],
+    ) -> Result<Option<(u8, u32, usize)>, Denial> {
+        self.below().open(key, payload, out)
+    }
+
+    fn destroy(&mut self, key: u32) -> Result<(), Denial>
+        ensures answer { result ≡ destroy_answer (L.meaning self.old) key }
+        ensures after { L.meaning self.new ≡ after_destroy (L.meaning self.old) key }
+        ensures destroyed { L.destroyed self.old key result self.new }
+    {
+        self.destroy_through(key)
+    }
+}
