@@ -38,13 +38,13 @@ fn state_bytes(s: [u32; 4]) -> [u8; 16]
     ensures { result ≡ state_of s }
 {
     let [
-        [a0, a1, a2, a3],
-        [b0, b1, b2, b3],
-        [c0, c1, c2, c3],
-        [d0, d1, d2, d3],
+        [c00, c01, c02, c03],
+        [c10, c11, c12, c13],
+        [c20, c21, c22, c23],
+        [c30, c31, c32, c33],
     ] = columns(s);
     [
-        a0, a1, a2, a3, b0, b1, b2, b3, c0, c1, c2, c3, d0, d1, d2, d3,
+        c00, c01, c02, c03, c10, c11, c12, c13, c20, c21, c22, c23, c30, c31, c32, c33,
     ]
 }
 
@@ -53,16 +53,16 @@ fn shifted(s: [u32; 4]) -> [[u8; 4]; 4]
     ensures { state_by result ≡ shift_rows (state_of s) }
 {
     let [
-        [a0, a1, a2, a3],
-        [b0, b1, b2, b3],
-        [c0, c1, c2, c3],
-        [d0, d1, d2, d3],
+        [c00, c01, c02, c03],
+        [c10, c11, c12, c13],
+        [c20, c21, c22, c23],
+        [c30, c31, c32, c33],
     ] = columns(s);
     [
-        [a0, b1, c2, d3],
-        [b0, c1, d2, a3],
-        [c0, d1, a2, b3],
-        [d0, a1, b2, c3],
+        [c00, c11, c22, c33],
+        [c10, c21, c32, c03],
+        [c20, c31, c02, c13],
+        [c30, c01, c12, c23],
     ]
 }
 
