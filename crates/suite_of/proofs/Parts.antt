@@ -1,11 +1,9 @@
 -- What a good payload is read as, from its parts.
-use Rattle.std.proofs.Common.{◌≡◌, ℕ, ◌+◌, ◌-◌, ◌<◌, ◌≤◌, Bool, true, false, cond, List, length, get_or, take, drop, Some, Ok, Err, sym, refl, ap, ◌∙◌, arith, length-take, length-drop}
+use Rattle.std.proofs.Common.{◌≡◌, ℕ, ◌+◌, ◌-◌, ◌<◌, ◌≤◌, true, List, length, get_or, take, drop, Some, Ok, sym, ap, ◌∙◌, arith, length-take, length-drop}
 use Rattle.std.specs.Str.{bytes_eq}
-use Rattle.std.proofs.lemmas.Bool.{le-leb, and_from, cond-true, eqb-true}
-use Rattle.std.proofs.lemmas.Bool.Decides.{nat_tests}
+use Rattle.std.proofs.lemmas.Bool.{le-leb, and_from, cond-true}
 use Rattle.std.proofs.lemmas.List.{take_all, get_or-take}
 use Rattle.suite.specs.declared.types.Role.{Role}
-use Rattle.suite.specs.declared.types.Role.TheVariants.{Sender, Recipient}
 use Rattle.suite.proofs.RoleLaws.{role_back, role_ok}
 use Rattle.suite.specs.Numbers.{role_byte, role_of}
 use Rattle.suite.specs.Schemes.{ok_role}

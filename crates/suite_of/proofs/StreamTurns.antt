@@ -1,5 +1,5 @@
 -- A loop that adds a stream to data in place, one byte a turn.
-use Rattle.std.proofs.Common.{◌≡◌, ℕ, ◌+◌, ◌<◌, List, ◌∷◌, ◌++◌, length, get_or, take, drop, set, sym, ap, ◌∙◌, zero-add, arith, length-take}
+use Rattle.std.proofs.Common.{◌≡◌, ℕ, ◌+◌, ◌<◌, List, ◌++◌, length, get_or, take, drop, set, sym, ap, ◌∙◌, zero-add, arith, length-take}
 use lib.Bits.{bit_xor}
 use Rattle.std.proofs.lemmas.List.{drop_more, drop_all, take_all, get_or_at}
 use Rattle.std.proofs.Common.{append-nil}

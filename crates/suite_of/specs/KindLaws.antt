@@ -1,6 +1,6 @@
 -- A suite of a sound kind keeps the laws.
 use Rattle.std.specs.Prelude.{◌≡◌, ℕ, ◌+◌, ◌≤◌, List, length}
-use Rattle.std.proofs.Common.{arith, lit≤, ◌∙◌, ap}
+use Rattle.std.proofs.Common.{arith, lit≤}
 use Rattle.std.proofs.lemmas.Bool.{eq-eqb, eqb-true}
 use Rattle.suite.specs.Meanings.{Bytes, Bytes16}
 use Rattle.suite.specs.Schemes.{Lawful}

@@ -1,6 +1,6 @@
 -- A kind of suite by what it computes of roots and of the values of keys: offers are seeds, payloads are as `Payloads` has them.
 use Rattle.std.specs.Prelude.{◌≡◌, ℕ, ◌+◌, ◌<◌, ◌≤◌, true, List, length, ◌==◌}
-use Rattle.suite.specs.Meanings.{Bytes, Bytes16, Meaning}
+use Rattle.suite.specs.Meanings.{Bytes, Bytes16}
 use Rattle.suite.specs.Numbers.{role_byte}
 use Rattle.suite.specs.declared.types.Role.TheVariants.{Sender, Recipient}
 use Rattle.suite.specs.Schemes.{Scheme, ok_role}

@@ -1,24 +1,26 @@
-// Suites at work: two peers agree, verify, protect one dosing record and destroy their keys; then the same through layers.
+// Suites of each kind at work: two peers agree, verify, protect one dosing record and destroy their keys; then the same through layers.
 #![tactic(auto)]
 
 mod peer;
 mod session;
 mod stopped;
 
-use bench_suite::Bench;
+use bench_suite::BenchKind;
+use keyed_suite::Keyed;
 use ledger::Ledger;
 use peer::Peer;
 use quota::Quota;
 use session::hand_over_one_record;
 use stopped::{Stopped, report};
 use suite::{Role, Suite};
+use suite_of::{Kind, SuiteOf};
 
 const ROOT: [u8; 16] = [0; 16];
 
-fn bare(rt: &HostRuntime) -> Result<(), Stopped> {
-    println!(rt; "Two bench suites")?;
-    let mut sender = Peer::new(rt, Role::Sender, Bench::new(ROOT));
-    let mut recipient = Peer::new(rt, Role::Recipient, Bench::new(ROOT));
+fn bare<K: Kind>(rt: &HostRuntime, kind: &str) -> Result<(), Stopped> {
+    println!(rt; "Two {kind} suites")?;
+    let mut sender = Peer::new(rt, Role::Sender, SuiteOf::<K>::new(ROOT));
+    let mut recipient = Peer::new(rt, Role::Recipient, SuiteOf::<K>::new(ROOT));
     let result = hand_over_one_record(&mut sender, &mut recipient);
     let _roots = (sender.into_suite().close(), recipient.into_suite().close());
     result
@@ -45,11 +47,11 @@ fn session_and_more<S: Suite, T: Suite>(
     show_rows(rt, sender.suite())
 }
 
-fn layered(rt: &HostRuntime) -> Result<(), Stopped> {
+fn layered<K: Kind>(rt: &HostRuntime) -> Result<(), Stopped> {
     println!(rt; "The Sender's suite under a quota of two keys, and a ledger over that")?;
-    let suite = Ledger::new(Quota::new(Bench::new(ROOT), 2));
+    let suite = Ledger::new(Quota::new(SuiteOf::<K>::new(ROOT), 2));
     let mut sender = Peer::new(rt, Role::Sender, suite);
-    let mut recipient = Peer::new(rt, Role::Recipient, Bench::new(ROOT));
+    let mut recipient = Peer::new(rt, Role::Recipient, SuiteOf::<K>::new(ROOT));
     let result = session_and_more(rt, &mut sender, &mut recipient);
     let _roots = (
         sender.into_suite().into_below().into_below().close(),
@@ -58,7 +60,12 @@ fn layered(rt: &HostRuntime) -> Result<(), Stopped> {
     result
 }
 
+fn play<K: Kind>(rt: &HostRuntime, kind: &str) -> Result<(), Stopped> {
+    report(rt, bare::<K>(rt, kind))?;
+    report(rt, layered::<K>(rt))
+}
+
 fn main(rt: HostRuntime) -> Result<(), Stopped> {
-    report(&rt, bare(&rt))?;
-    report(&rt, layered(&rt))
+    play::<BenchKind>(&rt, "bench")?;
+    play::<Keyed>(&rt, "keyed")
 }

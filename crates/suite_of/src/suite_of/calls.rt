@@ -8,14 +8,13 @@ ghost use Rattle.suite_of.specs.Kept.{meaning_of};
 ghost use Rattle.suite_of.specs.Kinds.{scheme_of};
 ghost use Rattle.suite_of.specs.KindLaws.{lawful_of};
 
-use key_store::KeyStore;
-use std::marker::PhantomData;
-use suite::{Denial, KeyKind, KindNumbers, Role, Suite};
-
 use super::super::bytes::write;
 use super::super::kind::Kind;
 use super::super::payload::{read_payload, write_payload};
 use super::SuiteOf;
+use key_store::KeyStore;
+use std::marker::PhantomData;
+use suite::{Denial, KeyKind, KindNumbers, Role, Suite};
 
 impl<K: Kind> SuiteOf<K> {
     // A suite with a root and no key.

@@ -1,4 +1,4 @@
-use Rattle.std.proofs.Common.{◌≡◌, ℕ, ◌/◌, ◌%◌, ◌<◌, ◌++◌, take, drop}
+use Rattle.std.proofs.Common.{◌≡◌, ◌/◌, ◌%◌, ◌<◌, ◌++◌, take, drop}
 use Rattle.aes128.specs.Keys.{words_of}
 use Rattle.aes128.specs.Cipher.{cipher_with}
 use Rattle.suite.specs.Numbers.{role_byte}

@@ -1,4 +1,4 @@
-use Rattle.std.proofs.Common.{◌≡◌, length}
+use Rattle.std.proofs.Common.{◌≡◌}
 use Rattle.aes128.specs.Keys.{words_of}
 use Rattle.buffers.specs.Buffers.{over}
 use Rattle.cmac.specs.Cmac.{cmac_with}

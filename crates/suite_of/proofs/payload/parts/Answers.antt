@@ -1,7 +1,7 @@
-use Rattle.std.proofs.Common.{rules, ◌≡◌, ◌+◌, ◌-◌, ◌≤◌, true, length, get_or, Ok, sym}
+use Rattle.std.proofs.Common.{rules, ◌≡◌, ◌≤◌, true, length, get_or, Ok, sym}
 use Rattle.std.specs.Str.{bytes_eq}
 use Rattle.suite.specs.Numbers.{role_of}
-use Rattle.suite_of.specs.Payloads.{front, back, number_at}
+use Rattle.suite_of.specs.Payloads.{front, back}
 use Rattle.suite_of.proofs.Parts.{parts_good}
 use Rattle.suite_of.proofs.payload.parts.Goals as goal
 

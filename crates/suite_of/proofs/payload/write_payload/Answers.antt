@@ -1,10 +1,10 @@
-use Rattle.std.proofs.Common.{rules, ◌≡◌, ◌+◌, ◌-◌, ◌≤◌, ◌++◌, length, take, drop, ◌∙◌, sym, refl, ap, arith, length-append}
+use Rattle.std.proofs.Common.{rules, ◌≡◌, ◌+◌, ◌-◌, ◌++◌, length, take, drop, ◌∙◌, sym, refl, ap, arith, length-append}
 use borrow.Rule.Slice.PartMut.{put_mid}
 use Rattle.buffers.specs.Buffers.{over}
 use Rattle.buffers.proofs.OverLaws.{take-over}
 use Rattle.suite.specs.Numbers.{role_byte}
-use Rattle.suite_of.specs.Payloads.{body_of, closed}
-use Rattle.suite_of.specs.PayloadLaws.{closed-length, body-length}
+use Rattle.suite_of.specs.Payloads.{body_of}
+use Rattle.suite_of.specs.PayloadLaws.{body-length}
 use Rattle.suite_of.proofs.Written.{over_rest}
 use Rattle.suite_of.proofs.payload.write_payload.Goals as goal
 

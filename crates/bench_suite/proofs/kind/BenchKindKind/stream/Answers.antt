@@ -1,4 +1,4 @@
-use Rattle.std.proofs.Common.{◌≡◌, ◌%◌, ◌<◌, length, get_or, refl, arith}
+use Rattle.std.proofs.Common.{◌%◌, get_or, refl, arith}
 use Rattle.suite_of.proofs.StreamTurns.{turn, end}
 use Rattle.bench_suite.proofs.kind.BenchKindKind.stream.Goals as goal
 

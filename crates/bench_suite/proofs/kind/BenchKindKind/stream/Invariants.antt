@@ -1,4 +1,4 @@
-use Rattle.std.proofs.Common.{◌≡◌, ◌%◌, get_or}
+use Rattle.std.proofs.Common.{◌%◌, get_or}
 use Rattle.suite_of.proofs.StreamTurns.{Done}
 use Rattle.bench_suite.proofs.kind.BenchKindKind.stream.Given as goal
 
