@@ -1,7 +1,7 @@
 # make run: build the main programs and run them: a capture explained, and suites at work
 # make test: the whole gate
 
-.PHONY: run test
+.PHONY: run test bench
 
 run:
 	@tools/run inspect <crates/inspect/stdin
@@ -9,3 +9,7 @@ run:
 
 test:
 	@.ci/run
+
+# make bench: the ciphers and the keyed suite measured beside mbedTLS and OpenSSL, outside the gate
+bench:
+	@bench/run

@@ -8,10 +8,10 @@ ghost use Rattle.suite_of.specs.Kept.{meaning_of};
 ghost use Rattle.suite_of.specs.Kinds.{scheme_of};
 ghost use Rattle.suite_of.specs.KindLaws.{lawful_of};
 
-use super::super::bytes::write;
-use super::super::kind::Kind;
-use super::super::payload::{read_payload, write_payload};
 use super::SuiteOf;
+use crate::bytes::write;
+use crate::kind::Kind;
+use crate::payload::{read_payload, write_payload};
 use key_store::KeyStore;
 use std::marker::PhantomData;
 use suite::{Denial, KeyKind, KindNumbers, Role, Suite};
@@ -34,14 +34,12 @@ impl<K: Kind> SuiteOf<K> {
     {
         self.keys.clear();
         let SuiteOf {
-            root,
+            root: own,
             keys,
             kind: _,
         } = self;
-        match keys.end() {
-            Ok(()) => root,
-            Err(_keys) => unreachable(),
-        }
+        keys.end().unwrap();
+        own
     }
 
     // The value of the live key of that kind and serial.
@@ -86,8 +84,8 @@ impl<K: Kind> Suite for SuiteOf<K> {
 
     fn agree(&mut self, seed: &[u8], offer: &[u8], role: u8) -> Result<u32, Denial> {
         let role = Role::try_from(role)?;
-        let seed = seed.as_array().ok_or(Denial::Unfit)?;
-        let offer = offer.as_array().ok_or(Denial::BadOffer)?;
+        let seed = seed.as_array::<16>().ok_or(Denial::Unfit)?;
+        let offer = offer.as_array::<16>().ok_or(Denial::BadOffer)?;
         let value = K::secret(&self.root, role, seed, offer);
         self.keys.put(KeyKind::SharedSecret, &value)
     }
