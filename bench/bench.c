@@ -1,7 +1,7 @@
 /* Blocks, tags and records: this library beside mbedTLS and OpenSSL, each with its software cipher.
  *
  *   bench            runs every operation with every library, compares what they computed, and prints nanoseconds
- *   bench OP LIB N   runs one operation N times, for a count of instructions
+ *   bench OP LIB N   runs operation OP of the list with library LIB, both counted from 0, N times, for a count of instructions
  */
 #include <openssl/core_names.h>
 #include <openssl/evp.h>
@@ -179,6 +179,8 @@ static size_t seal(const struct library *l, const uint8_t link[16], uint8_t role
 static bool open_record(const struct library *l, const uint8_t link[16], const uint8_t *payload, size_t length, uint8_t *out)
 {
     uint8_t tag[16], difference = 0;
+    if (length < 13 || (payload[0] != 1 && payload[0] != 2))
+        return false;
     field(l, link, payload, length - 8, tag);
     for (int i = 0; i < 8; i++)
         difference |= tag[i] ^ payload[length - 8 + i];
@@ -210,7 +212,8 @@ static uint32_t records(const struct library *l, const uint8_t root[16], const u
 static void encrypt(const struct library *l, uint8_t *block, size_t length, uint32_t times)
 {
     if (!l->cipher) {
-        measured_encrypt(KEY, 16, block, 16, times);
+        if (!measured_encrypt(KEY, 16, block, 16, times))
+            exit(1);
         return;
     }
     void *cipher = l->cipher(KEY);
@@ -224,7 +227,8 @@ static void tag(const struct library *l, uint8_t *text, size_t length, uint32_t 
 {
     uint8_t out[16];
     if (!l->mac) {
-        measured_tag(KEY, 16, text, length, times);
+        if (!measured_tag(KEY, 16, text, length, times))
+            exit(1);
         return;
     }
     void *mac = l->mac(KEY);
@@ -238,7 +242,10 @@ static void tag(const struct library *l, uint8_t *text, size_t length, uint32_t 
 static void cross(const struct library *l, uint8_t *plain, size_t length, uint32_t times)
 {
     uint32_t crossed = l->mac ? records(l, KEY, plain, length, times) : measured_records(KEY, 16, plain, length, times);
-    plain[0] = crossed == times;
+    if (crossed != times) {
+        fprintf(stderr, "a record was lost\n");
+        exit(1);
+    }
 }
 
 static const struct operation {

@@ -6,8 +6,10 @@ use Rattle.std.proofs.lemmas.Nat.{xor_lt}
 use Rattle.std.proofs.ByRecursion.{All-take, All-map, All-weaker, All-get_or}
 use Rattle.suite.specs.Meanings.{Bytes16}
 use Rattle.suite.proofs.ByteLaws.{role_byte-small, low_byte}
+use Rattle.suite.specs.Schemes.{Lawful}
 use Rattle.suite_of.specs.Kinds.{Sound}
-use Rattle.bench_suite.specs.Benches.{bench_functions, linked}
+use Rattle.suite_of.specs.KindLaws.{lawful_of}
+use Rattle.bench_suite.specs.Benches.{bench_functions, bench_scheme, linked}
 use Rattle.bench_suite.specs.Xors.{xored-length, xored-bytes, xored_swap}
 
 -- a link key has sixteen bytes
@@ -39,7 +41,7 @@ bench_sound = record {
   final_low = lit< tt;
   final_bound = lit≤ tt;
   secret_is = λ root seed offer role r e o ok. record { long = xored-length seed offer (e.long ∙ sym o.long) ∙ e.long; bytes = xored-bytes seed offer e.bytes o.bytes };
-  agrees = λ root one other. xored_swap one other;
+  agrees = λ root one other r p q. xored_swap one other;
   check_long = λ value role v ok. check-length value role v;
   check_bytes = λ value role v ok. (role_byte-small role ok, All-take (λ z. z < 256) 3 value v.bytes);
   link_is = λ value v. linked_is value v;
@@ -47,3 +49,7 @@ bench_sound = record {
   field_long = λ value body v. refl;
   field_bytes = λ value body v. (low_byte _, tt);
 }
+
+-- so it keeps the laws
+pub bench_lawful : Lawful bench_scheme
+bench_lawful = lawful_of bench_functions bench_sound

@@ -24,6 +24,7 @@ impl Refusal {
     }
 }
 
+// Words by hand, here and below: what `thiserror` derives has no contract.
 impl fmt::Display for Refusal {
     ghost output = { λ refusal. Some (refusal_words refusal) };
 

@@ -23,7 +23,8 @@ fn has_frame(body: &Body<'_>) -> bool
     }
 }
 
-// Writes `head` and then the payload to the front of `out`, and answers their length.
+// Writes `head` and then the payload to the front of `out`, and answers their length. Each such function asks for room of its own, and
+// says of answer and bytes one fact a clause.
 fn put_frame(head: &[u8], payload: &[u8], out: &mut [u8]) -> usize
     requires { length head.now + length payload.now ≤ length out.old }
     ensures answer { result ≡ length (head.now ++ payload.now) }

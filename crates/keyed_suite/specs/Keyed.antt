@@ -7,7 +7,7 @@ use Rattle.suite.specs.Numbers.{role_byte}
 use Rattle.suite_of.specs.Payloads.{four_bytes}
 use Rattle.suite_of.specs.Kinds.{Functions}
 
--- the tag of the Sender's offer and then the Recipient's
+-- the tag, under the root, of the Sender's offer and then the Recipient's
 abbrev pub secret_of : List ℕ → ℕ → List ℕ → List ℕ → List ℕ
 secret_of root role own other = cmac root (cond (role == role_byte Sender) (own ++ other) (other ++ own))
 

@@ -19,11 +19,11 @@ const NUMBERS: KindNumbers = KindNumbers {
 
 // The kind of the keyed suite.
 #[derive(Clone, Copy)]
-pub struct Keyed;
+pub struct KeyedKind;
 
-pub type KeyedSuite = SuiteOf<Keyed>;
+pub type KeyedSuite = SuiteOf<KeyedKind>;
 
-impl Kind for Keyed {
+impl Kind for KeyedKind {
     ghost functions = { keyed_functions };
 
     ghost sound = { keyed_sound };

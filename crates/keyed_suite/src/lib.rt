@@ -4,4 +4,4 @@
 mod kind;
 mod stream;
 
-pub use kind::{Keyed, KeyedSuite};
+pub use kind::{KeyedKind, KeyedSuite};

@@ -16,7 +16,7 @@ fn counter(role: Role, number: u32, j: usize) -> [u8; 16]
     [role.byte(), a, b, c, d, 0, 0, 0, 0, 0, 0, 0, e, f, g, h]
 }
 
-// Adds the keystream of a record to its data.
+// XORs the keystream of a record into its data.
 pub(super) fn add_stream(cipher: &Aes128, role: Role, number: u32, bytes: &mut [u8])
     ensures { bytes.new ≡ streamed (keystream (words_of cipher.now) (role_byte role) number) 0 bytes.old }
 {

@@ -121,8 +121,8 @@ fn opens_empty(
     assert_eq!(rt; out, [9; 255]);
 }
 
-// What is not good is not written: too short, no role, a tag that differs in its first or in its last byte. What is good may have any
-// number, and no data.
+// What is not good is not written: too short or with no role, each under its own tag, and a tag that differs in its first or in its last
+// byte. What is good may have any number, and no data.
 #[test]
 fn payloads(rt: HostRuntime) {
     const EMPTY: [u8; 13] = [
@@ -131,13 +131,16 @@ fn payloads(rt: HostRuntime) {
     const HIGHEST: [u8; 13] = [
         2, 255, 255, 255, 255, 0xCB, 0x66, 0xE3, 0x7B, 0xC7, 0x88, 0xBE, 0x47,
     ];
+    const NO_ROLE: [u8; 13] = [
+        3, 0, 0, 0, 1, 0x20, 0xE2, 0xE6, 0x11, 0xCD, 0x2A, 0xF3, 0xEB,
+    ];
+    const SHORT: [u8; 12] = [1, 0, 0, 0, 0xC7, 0xC7, 0x60, 0xF7, 0x76, 0x99, 0x24, 0xAB];
     let suite = with_link(&rt);
-    let (mut role, mut first, mut last) = (EMPTY, EMPTY, EMPTY);
-    role[0] = 3;
+    let (mut first, mut last) = (EMPTY, EMPTY);
     first[5] ^= 1;
     last[12] ^= 1;
-    opens_empty(&rt, &suite, &EMPTY[..12], None);
-    opens_empty(&rt, &suite, &role, None);
+    opens_empty(&rt, &suite, &SHORT, None);
+    opens_empty(&rt, &suite, &NO_ROLE, None);
     opens_empty(&rt, &suite, &first, None);
     opens_empty(&rt, &suite, &last, None);
     opens_empty(&rt, &suite, &EMPTY, Some((1, 1, 0)));

@@ -9,7 +9,7 @@ fn link(suite: &mut KeyedSuite) -> Result<u32, Denial> {
     suite.derive(secret)
 }
 
-// Whether a record, sealed by the Sender, is opened as it was sealed.
+// Whether a record, sealed by the Sender, opens with its role, number and data.
 fn crosses(suite: &KeyedSuite, link: u32, number: u32, plain: &[u8]) -> bool {
     let mut payload = [0; 255];
     let Ok(length) = suite.seal(link, Role::Sender.byte(), number, plain, &mut payload) else {
@@ -17,7 +17,9 @@ fn crosses(suite: &KeyedSuite, link: u32, number: u32, plain: &[u8]) -> bool {
     };
     let mut back = [0; 255];
     match suite.open(link, &payload[..length.min(255)], &mut back) {
-        Ok(Some((_, again, size))) => again == number && &back[..size.min(255)] == plain,
+        Ok(Some((role, again, size))) => {
+            role == Role::Sender.byte() && again == number && &back[..size.min(255)] == plain
+        }
         _ => false,
     }
 }

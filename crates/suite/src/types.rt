@@ -36,6 +36,7 @@ impl TryFrom<u8> for Role {
     }
 }
 
+// Words by hand, here and below: no derive writes them with a contract.
 impl fmt::Display for Role {
     ghost output = { λ role. Some (role_text role) };
 

@@ -1,4 +1,3 @@
 pub mod Parts
-pub mod Written
 pub mod StreamTurns
 pub mod Differences

@@ -30,7 +30,7 @@ lawful_of k s =
       link_is = λ root value serial link r v. s.link_is value v;
       seal_bytes = λ root value plain serial role n r v ok can. closed-bytes (k.stream_of value role n) (k.field_of value) role n plain (λ i. s.stream_byte value role n i v) (s.field_bytes value _ v) ok can.bytes;
       fits = λ root seed r e. eq-eqb (length seed) 16 e.long;
-      agrees = λ root one other serial serial' r p q. s.agrees root one other;
+      agrees = λ root one other serial serial' r p q. s.agrees root one other r p q;
       opens = λ root root' value plain serial serial' role n r r' v ok can. reads_back k.field_length (k.field_of value) (k.stream_of value) role n plain (s.field_long value _ v) ok (most can.high);
       seal_long = λ root value plain serial role n r v ok can. sealed-length value role n plain v;
     }

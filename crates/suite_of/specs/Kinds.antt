@@ -11,6 +11,7 @@ pub record Functions : Type 0 where
   pub check_length : ℕ
   -- how many bytes the last field of a payload has
   pub field_length : ℕ
+  -- the last number; the first is 0
   pub final : ℕ
   -- root, own role, own seed, the peer's offer
   pub secret_of : List ℕ → ℕ → List ℕ → List ℕ → List ℕ
@@ -18,7 +19,7 @@ pub record Functions : Type 0 where
   pub check_of : List ℕ → ℕ → List ℕ
   -- value of the shared secret
   pub link_of : List ℕ → List ℕ
-  -- value of the link key, role, number, place in the data: the byte that is added to the data's byte
+  -- value of the link key, role, number, place in the data: the byte that the data's byte is XORed with
   pub stream_of : List ℕ → ℕ → ℕ → ℕ → ℕ
   -- value of the link key, all of a payload but its field
   pub field_of : List ℕ → List ℕ → List ℕ
@@ -48,7 +49,7 @@ pub record Sound (k : Functions) : Type 0 where
   pub final_low : 0 < k.final
   pub final_bound : k.final ≤ 16777215
   pub secret_is : (root seed offer : List ℕ) (role : ℕ) → Bytes16 root → Bytes16 seed → Bytes16 offer → ok_role role ≡ true → Bytes16 (k.secret_of root role seed offer)
-  pub agrees : (root one other : List ℕ) → k.secret_of root (role_byte Sender) one other ≡ k.secret_of root (role_byte Recipient) other one
+  pub agrees : (root one other : List ℕ) → Bytes16 root → Bytes16 one → Bytes16 other → k.secret_of root (role_byte Sender) one other ≡ k.secret_of root (role_byte Recipient) other one
   pub check_long : (value : List ℕ) (role : ℕ) → Bytes16 value → ok_role role ≡ true → length (k.check_of value role) ≡ k.check_length
   pub check_bytes : (value : List ℕ) (role : ℕ) → Bytes16 value → ok_role role ≡ true → Bytes (k.check_of value role)
   pub link_is : (value : List ℕ) → Bytes16 value → Bytes16 (k.link_of value)

@@ -21,10 +21,11 @@ body_of stream role n plain = role ∷ (four_bytes n ++ streamed stream 0 plain)
 abbrev pub closed : (List ℕ → List ℕ) → List ℕ → List ℕ
 closed field body = body ++ field body
 
--- all of a payload but its last w bytes, and these
+-- all of a payload but its last w bytes
 abbrev pub front : ℕ → List ℕ → List ℕ
 front w p = take (length p - w) p
 
+-- its last w bytes
 abbrev pub back : ℕ → List ℕ → List ℕ
 back w p = drop (length p - w) p
 
@@ -36,6 +37,6 @@ is_good w field p = nat_le (5 + w) (length p) && ok_role (slice_index p 0) && by
 abbrev pub parts_of : ℕ → (List ℕ → List ℕ) → List ℕ → Option (ℕ × ℕ × List ℕ)
 parts_of w field p = cond (is_good w field p) (Some (slice_index p 0, number_at p, drop 5 (front w p))) None
 
--- role, number and data, whose stream may depend on role and number
+-- what is read of a payload: role, number and the data XOR the stream of that role and number; none if it is not good
 abbrev pub read_of : ℕ → (List ℕ → List ℕ) → (ℕ → ℕ → ℕ → ℕ) → List ℕ → Option (ℕ × ℕ × List ℕ)
 read_of w field stream p = option_map (λ t. (t.0, t.1, streamed (stream t.0 t.1) 0 t.2)) (parts_of w field p)

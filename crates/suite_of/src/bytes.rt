@@ -2,7 +2,8 @@ ghost use Rattle.std.specs.Prelude.{◌≡◌, ◌≤◌, length};
 ghost use Rattle.std.specs.Str.{bytes_eq};
 ghost use Rattle.buffers.specs.Buffers.{over};
 
-// Writes bytes to the front of a buffer, and answers how many.
+// Writes bytes to the front of a buffer, and answers how many. Here and in `payload` each function asks for room of its own, and says of
+// answer and bytes one fact a clause.
 pub(super) fn write(bytes: &[u8], out: &mut [u8]) -> usize
     requires { length bytes.now ≤ length out.old }
     ensures answer { result ≡ length bytes.now }
@@ -12,7 +13,7 @@ pub(super) fn write(bytes: &[u8], out: &mut [u8]) -> usize
     bytes.len()
 }
 
-// Whether two fields are the same. Every byte is looked at, wherever they first differ.
+// Whether two fields are the same. Of two of one length every byte is looked at, wherever they first differ.
 pub(super) fn same(a: &[u8], b: &[u8]) -> bool
     ensures { result ≡ bytes_eq a.now b.now }
 {

@@ -25,7 +25,7 @@ pub trait Kind {
     fn link(value: &[u8; 16]) -> [u8; 16]
         ensures { result ≡ functions.link_of value.now };
 
-    // Adds the stream of a record to its data.
+    // XORs the stream of a record into its data.
     fn stream(value: &[u8; 16], role: Role, number: u32, bytes: &mut [u8])
         ensures { bytes.new ≡ streamed (functions.stream_of value.now (role_byte role) number) 0 bytes.old };
 

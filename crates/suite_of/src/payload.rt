@@ -9,11 +9,14 @@ use super::bytes::{same, write};
 use super::kind::Kind;
 use suite::Role;
 
+// Role and number.
+const HEAD: usize = 5;
+
 // How many bytes the last field of a payload has.
 fn field_length<K: Kind>() -> usize
     ensures { result ≡ K.functions.field_length }
 {
-    K::numbers().overhead - 5
+    K::numbers().overhead - HEAD
 }
 
 // Writes all of a payload but its field to the front of a buffer, and answers how many bytes that is.
@@ -37,7 +40,7 @@ fn write_body<K: Kind>(
     end
 }
 
-// Writes the payload that protects the data to the front of a buffer, and answers its length.
+// Writes the payload that protects the data to the front of a buffer, and answers its length. Head and field have at most 21 bytes.
 pub(crate) fn write_payload<K: Kind>(
     value: &[u8; 16],
     role: Role,

@@ -6,7 +6,7 @@ mod session;
 mod stopped;
 
 use bench_suite::BenchKind;
-use keyed_suite::Keyed;
+use keyed_suite::KeyedKind;
 use ledger::Ledger;
 use peer::Peer;
 use quota::Quota;
@@ -67,5 +67,5 @@ fn play<K: Kind>(rt: &HostRuntime, kind: &str) -> Result<(), Stopped> {
 
 fn main(rt: HostRuntime) -> Result<(), Stopped> {
     play::<BenchKind>(&rt, "bench")?;
-    play::<Keyed>(&rt, "keyed")
+    play::<KeyedKind>(&rt, "keyed")
 }

@@ -6,7 +6,7 @@ use super::stopped::Stopped;
 use std::{fmt, io};
 use suite::{KeyKind, Role, Suite};
 
-// A key that a suite made.
+// A key that a suite made. (`key_store` has the same two as a label, which does not leave that crate.)
 #[derive(Clone, Copy)]
 pub(super) struct Key {
     kind: KeyKind,

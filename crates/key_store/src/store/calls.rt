@@ -63,7 +63,7 @@ impl KeyStore {
         Ok(serial)
     }
 
-    // Removes the live key of that serial, and answers whether there was one.
+    // Removes the live key of that serial, and answers whether there was one, as a set does.
     pub fn remove(&mut self, serial: u32) -> bool
         ensures answer { result ≡ is_live (keys_of self.old) serial }
         ensures newest { newest_of self.new ≡ newest_of self.old }

@@ -5,7 +5,7 @@ use Rattle.buffers.proofs.OverLaws.{take-over}
 use Rattle.suite.specs.Numbers.{role_byte}
 use Rattle.suite_of.specs.Payloads.{body_of}
 use Rattle.suite_of.specs.PayloadLaws.{body-length}
-use Rattle.suite_of.proofs.Written.{over_rest}
+use Rattle.buffers.proofs.OverLaws.{over_rest}
 use Rattle.suite_of.proofs.payload.write_payload.Goals as goal
 
 pub returns : goal.returns
