@@ -72,8 +72,8 @@ pub record Lawful (s : Scheme) : Type 0 where
   pub agrees : (root one other : List ℕ) (serial serial' : ℕ) → Bytes16 root → Bytes16 one → Bytes16 other → s.secret_of root serial (role_byte Sender) one (s.offer_of root other) ≡ s.secret_of root serial' (role_byte Recipient) other (s.offer_of root one)
   -- opening under an equal value gives back what was sealed, whatever the two roots and serials
   pub opens : (root root' value plain : List ℕ) (serial serial' role n : ℕ) → Bytes16 root → Bytes16 root' → Bytes16 value → ok_role role ≡ true → Sealable s n plain → s.open_of root' serial' value (s.seal_of root serial value role n plain) ≡ Some (role, n, plain)
-  -- a payload is as long as its data and the overhead
-  pub seal_long : (root value plain : List ℕ) (serial role n : ℕ) → Bytes16 root → Bytes16 value → ok_role role ≡ true → Sealable s n plain → length (s.seal_of root serial value role n plain) ≡ length plain + s.overhead
+  -- a payload is as long as its data and the overhead, whatever data and number
+  pub seal_long : (root value plain : List ℕ) (serial role n : ℕ) → Bytes16 root → Bytes16 value → ok_role role ≡ true → length (s.seal_of root serial value role n plain) ≡ length plain + s.overhead
 
 -- Two suites are of one kind where first number, seal and open mean the same.
 pub record OneKind (s t : Scheme) : Type 0 where

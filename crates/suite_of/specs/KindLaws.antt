@@ -32,7 +32,7 @@ lawful_of k s =
       fits = λ root seed r e. eq-eqb (length seed) 16 e.long;
       agrees = λ root one other serial serial' r p q. s.agrees root one other r p q;
       opens = λ root root' value plain serial serial' role n r r' v ok can. reads_back k.field_length (k.field_of value) (k.stream_of value) role n plain (s.field_long value _ v) ok (most can.high);
-      seal_long = λ root value plain serial role n r v ok can. sealed-length value role n plain v;
+      seal_long = λ root value plain serial role n r v ok. sealed-length value role n plain v;
     }
   where
     most : {n : ℕ} → n ≤ k.final → n ≤ 16777215

@@ -1,0 +1,42 @@
+-- What the answers of a suite are to the definitions, with what lies in the front of the lent bytes.
+use Rattle.std.specs.Prelude.{ℕ, cond, List, take, Ok, Err, Result}
+use Rattle.frame.specs.declared.types.Message.{Message}
+use Rattle.frame.specs.declared.types.Service.{Service}
+use Rattle.frame.specs.declared.faults.CodecFault.{CodecFault}
+use Rattle.frame.specs.Frames.{Parts, parts}
+use Rattle.suite.specs.declared.types.Denial.{Denial}
+use Rattle.protocol.specs.declared.refusals.Refusal.{Refusal}
+use Rattle.protocol.specs.declared.refusals.Refusal.TheVariants.{WrongState}
+use Rattle.protocol.specs.declared.faults.SuiteFault.{SuiteFault}
+use Rattle.protocol.specs.declared.faults.MachineFault.{MachineFault}
+use Rattle.protocol.specs.declared.faults.Cause.TheVariants.{OtherService}
+use Rattle.protocol.specs.Models.{Model}
+use Rattle.protocol.specs.Steps.{same_service}
+
+-- a payload, or the refusal of a request that the suite denies
+abbrev pub payload_shown : Result (List ℕ) Denial → Result (List ℕ) Refusal
+payload_shown (Ok payload) = Ok payload
+payload_shown (Err e) = Err WrongState
+
+-- role, number and data
+abbrev pub record_shown : Result (ℕ × ℕ × ℕ) SuiteFault → List ℕ → Result (ℕ × ℕ × List ℕ) SuiteFault
+record_shown (Ok t) scratch = Ok (t.0, t.1, take t.2 scratch)
+record_shown (Err e) scratch = Err e
+
+-- what a service that is put into effect leaves of the entity, and the serial of the key made for it
+abbrev pub model_after : Model → Result (Model × ℕ) SuiteFault → Model
+model_after m (Ok c) = c.0
+model_after m (Err e) = m
+
+abbrev pub made_for : Result (Model × ℕ) SuiteFault → Result ℕ SuiteFault
+made_for (Ok c) = Ok c.1
+made_for (Err e) = Err e
+
+-- M2 where the service is not the session's
+abbrev pub other_service : Model → Service → Result (Unit {0}) MachineFault
+other_service m service = cond (same_service service m.service) (Ok tt) (Err (record { cause = OtherService; state = m.state }))
+
+-- a message that was read, or a codec fault
+abbrev pub heard_parts : Result Message CodecFault → Result Parts CodecFault
+heard_parts (Ok m) = Ok (parts m)
+heard_parts (Err f) = Err f

@@ -1,0 +1,35 @@
+ghost use Rattle.std.specs.Prelude.{◌≡◌, ℕ, ◌<◌, length, slice_index};
+
+use crate::held::Held;
+use frame::Service;
+use protocol::State;
+use suite::Role;
+
+mod activation;
+mod asked;
+mod ends;
+mod frames;
+mod machine;
+mod making;
+mod records;
+mod requests;
+mod verification;
+
+// One end of the link, over its suite. It can be neither copied nor let go, only put away, so that no live key is lost sight of.
+pub struct Entity<S> {
+    suite: S,
+    state: State,
+    // The session's; in Idle, that of the last session.
+    service: Service,
+    role: Role,
+    // Zeros but from the invocation to the peer's offer.
+    seed: [u8; 16],
+    // The number of the newest record of the session.
+    number: u32,
+    held: Held,
+    // The serials of the two keys, 0 for none.
+    secret: u32,
+    link: u32,
+    ghost long: { length seed ≡ 16 },
+    ghost bytes: { ((i : ℕ) → slice_index seed i < 256) },
+}

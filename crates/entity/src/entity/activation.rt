@@ -1,0 +1,80 @@
+ghost use Rattle.std.specs.Prelude.{◌≡◌, ◌≤◌, length, IfErr};
+ghost use Rattle.buffers.specs.Buffers.{over};
+ghost use Rattle.protocol.specs.Steps.{on_act_req, on_act_res, asking};
+ghost use Rattle.entity.specs.Views.{view};
+
+use super::Entity;
+use super::asked::agree;
+use crate::bytes::put;
+use frame::{Body, Service};
+use protocol::{Confirmation, MachineFault, Outcome, State, SuiteFault, met_in};
+use suite::{Role, Suite};
+
+impl<S: Suite> Entity<S> {
+    // Idle: the peer asks for a service. The Recipient agrees, and answers by its offer.
+    pub(super) fn on_act_req(
+        &mut self,
+        service: Service,
+        pid: u8,
+        offer: &[u8],
+        seed: &[u8; 16],
+        reply: &mut [u8],
+    ) -> Result<Outcome, MachineFault>
+        requires { 255 ≤ length reply.old }
+        ensures model { view S.meaning self.new ≡ (on_act_req S.scheme (view S.meaning self.old) service pid offer.now seed.now).model }
+        ensures answer { result ≡ (on_act_req S.scheme (view S.meaning self.old) service pid offer.now seed.now).answer }
+        ensures reply { reply.new ≡ over (on_act_req S.scheme (view S.meaning self.old) service pid offer.now seed.now).reply reply.old }
+        ensures untouched { IfErr result (λ f. reply.new ≡ reply.old) }
+    {
+        if pid != S::numbers().pid {
+            return Err(self.met(SuiteFault::OtherPid.into()));
+        }
+        let made = met_in(
+            self.state,
+            agree(&mut self.suite, seed, offer, Role::Recipient),
+        )?;
+        self.state = State::EstablishedRecipient;
+        self.service = service;
+        self.role = Role::Recipient;
+        self.secret = made;
+        let mut scratch = [0; 255];
+        let own = self.offer(seed, &mut scratch);
+        let length = put(service, Body::ActRes(own), reply);
+        Ok(Outcome::quiet(Confirmation::Nothing, length, made))
+    }
+
+    // Select: the peer takes part. The Sender agrees, and asks for verification.
+    pub(super) fn on_act_res(
+        &mut self,
+        offer: &[u8],
+        reply: &mut [u8],
+    ) -> Result<Outcome, MachineFault>
+        requires { 255 ≤ length reply.old }
+        ensures model { view S.meaning self.new ≡ (on_act_res S.scheme (view S.meaning self.old) offer.now).model }
+        ensures answer { result ≡ (on_act_res S.scheme (view S.meaning self.old) offer.now).answer }
+        ensures reply { reply.new ≡ over (on_act_res S.scheme (view S.meaning self.old) offer.now).reply reply.old }
+        ensures untouched { IfErr result (λ f. reply.new ≡ reply.old) }
+    {
+        let made = met_in(
+            self.state,
+            agree(&mut self.suite, &self.seed, offer, Role::Sender),
+        )?;
+        self.secret = made;
+        self.ask(made, reply)
+    }
+
+    // Asks for verification by the Sender's check value.
+    fn ask(&mut self, made: u32, reply: &mut [u8]) -> Result<Outcome, MachineFault>
+        requires { 255 ≤ length reply.old }
+        ensures model { view S.meaning self.new ≡ (asking S.scheme (view S.meaning self.old) made).model }
+        ensures answer { result ≡ (asking S.scheme (view S.meaning self.old) made).answer }
+        ensures reply { reply.new ≡ over (asking S.scheme (view S.meaning self.old) made).reply reply.old }
+        ensures untouched { IfErr result (λ f. reply.new ≡ reply.old) }
+    {
+        let mut scratch = [0; 255];
+        let check = met_in(self.state, self.check_value(Role::Sender, &mut scratch))?;
+        let length = put(self.service, Body::VfyReq(check), reply);
+        self.state = State::EstablishedSender;
+        Ok(Outcome::quiet(Confirmation::Nothing, length, made))
+    }
+}

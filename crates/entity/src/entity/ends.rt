@@ -1,0 +1,87 @@
+ghost use Rattle.std.specs.Prelude.{◌≡◌, ◌%◌, ◌≤◌, length, Ok};
+ghost use Rattle.buffers.specs.Buffers.{over};
+ghost use Rattle.protocol.specs.Models.{without_key, idle, keys_of};
+ghost use Rattle.protocol.specs.Calls.{faulted, error_service};
+ghost use Rattle.entity.specs.Views.{view};
+
+use super::Entity;
+use crate::bytes::put;
+use crate::held::Held;
+use frame::{Body, Service};
+use protocol::{Confirmation, Destroyed, Fault, Outcome, State};
+use suite::Suite;
+
+fn error_service(service: Service, sep: u8, state: State) -> Service
+    ensures { result ≡ error_service service sep state }
+{
+    match state {
+        State::Idle if (sep >> 4) % 4 == Service::Sch.code() => Service::Sch,
+        State::Idle => Service::Sse,
+        _ => service,
+    }
+}
+
+// Destroys the key of that serial, if it is a key's.
+fn destroy<S: Suite>(suite: &mut S, key: u32)
+    ensures { S.meaning suite.new ≡ without_key (S.meaning suite.old) key }
+{
+    if key != 0 {
+        let _ = suite.destroy(key);
+    }
+}
+
+impl<S: Suite> Entity<S> {
+    // The keys go, the link key first, and all that was kept is zeros.
+    pub(super) fn enter_idle(&mut self) -> Destroyed
+        ensures model { view S.meaning self.new ≡ idle (view S.meaning self.old) }
+        ensures destroyed { result ≡ keys_of (view S.meaning self.old) }
+    {
+        let destroyed = Destroyed {
+            link: self.link,
+            secret: self.secret,
+        };
+        destroy(&mut self.suite, self.link);
+        destroy(&mut self.suite, self.secret);
+        self.state = State::Idle;
+        self.seed = [0; 16];
+        self.number = 0;
+        self.held = Held::nothing();
+        self.secret = 0;
+        self.link = 0;
+        destroyed
+    }
+
+    // Ends the session, with a reply of that length.
+    pub(super) fn end(
+        &mut self,
+        confirmation: Confirmation,
+        length: usize,
+        fault: Option<Fault>,
+    ) -> Outcome
+        ensures model { view S.meaning self.new ≡ idle (view S.meaning self.old) }
+        ensures answer { result ≡ record { confirmation = confirmation; length = length; made = 0; destroyed = keys_of (view S.meaning self.old); fault = fault } }
+    {
+        Outcome {
+            confirmation,
+            length,
+            made: 0,
+            destroyed: self.enter_idle(),
+            fault,
+        }
+    }
+
+    // Answers a fault by an ERROR, and ends the session.
+    pub(super) fn fail(&mut self, sep: u8, fault: Fault, reply: &mut [u8]) -> Outcome
+        requires room { 255 ≤ length reply.old }
+        requires message { fault.message ≡ sep % 16 }
+        ensures model { view S.meaning self.new ≡ (faulted (view S.meaning self.old) sep fault.machine).model }
+        ensures answer { Ok result ≡ (faulted (view S.meaning self.old) sep fault.machine).answer }
+        ensures reply { reply.new ≡ over (faulted (view S.meaning self.old) sep fault.machine).reply reply.old }
+    {
+        let code = fault.code();
+        let service = error_service(self.service, sep, fault.machine.state);
+        let payload = [code.letter, code.digit, 0];
+        let length = put(service, Body::Error(&payload), reply);
+        self.end(Confirmation::Error, length, Some(fault))
+    }
+}

@@ -1,0 +1,62 @@
+ghost use Rattle.std.specs.Prelude.{◌≡◌};
+ghost use Rattle.protocol.specs.Models.{fresh, idle, keys_of};
+ghost use Rattle.entity.specs.Views.{view};
+
+use super::Entity;
+use crate::held::Held;
+use activation::Agreed;
+use frame::Service;
+use protocol::{Destroyed, State};
+use suite::{Role, Suite};
+
+impl<S: Suite> Entity<S> {
+    // A new entity, in Idle. The activation is used up: another entity takes another exchange.
+    pub fn new(_activation: Agreed, suite: S) -> Entity<S>
+        ensures { view S.meaning result ≡ fresh (S.meaning suite) }
+    {
+        Entity {
+            suite,
+            state: State::Idle,
+            service: Service::Sse,
+            role: Role::Sender,
+            seed: [0; 16],
+            number: 0,
+            held: Held::nothing(),
+            secret: 0,
+            link: 0,
+        }
+    }
+
+    // Enters Idle, tells the keys destroyed, and hands back the suite.
+    pub fn put_away(mut self) -> (S, Destroyed)
+        ensures suite { S.meaning result.0 ≡ (idle (view S.meaning self)).means }
+        ensures destroyed { result.1 ≡ keys_of (view S.meaning self) }
+    {
+        let destroyed = self.enter_idle();
+        let Entity {
+            suite,
+            state: _,
+            service: _,
+            role: _,
+            seed: _,
+            number: _,
+            held: _,
+            secret: _,
+            link: _,
+        } = self;
+        (suite, destroyed)
+    }
+
+    pub fn state(&self) -> State
+        ensures { result ≡ (view S.meaning self.now).state }
+    {
+        self.state
+    }
+
+    // The number of the newest record; 0 where no link session runs.
+    pub fn number(&self) -> u32
+        ensures { result ≡ (view S.meaning self.now).number }
+    {
+        self.number
+    }
+}

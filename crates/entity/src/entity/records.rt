@@ -1,0 +1,76 @@
+ghost use Rattle.std.specs.Prelude.{◌≡◌, [], replicate};
+ghost use Rattle.protocol.specs.Steps.{record_length, sequenced, on_enc};
+ghost use Rattle.entity.specs.Views.{view};
+
+use super::Entity;
+use crate::held::Held;
+use protocol::{Cause, Confirmation, MachineFault, Outcome, SuiteFault, met_in};
+use suite::Suite;
+
+// How many bytes the data of a record has.
+pub(super) fn is_record_length(length: usize) -> bool
+    ensures { result ≡ record_length length }
+{
+    (1..=200).contains(&length)
+}
+
+impl<S: Suite> Entity<S> {
+    // The sequence check of role, number and data length: whether the record is a new one.
+    fn is_next(&self, opened: (u8, u32, usize)) -> Result<bool, Cause>
+        ensures { result ≡ sequenced S.scheme (view S.meaning self.now) opened }
+    {
+        let (role, number, length) = opened;
+        if !is_record_length(length) {
+            return Err(SuiteFault::BadRecord.into());
+        }
+        if number == self.number {
+            return Ok(false);
+        }
+        if role == self.role.byte() {
+            return Err(SuiteFault::BadRecord.into());
+        }
+        if self.number.checked_add(1) != Some(number) || number > S::numbers().last_number {
+            return Err(Cause::WrongNumber);
+        }
+        Ok(true)
+    }
+
+    // Opens a record in the lent bytes, and keeps its data if it is a new one.
+    fn enter(&mut self, payload: &[u8], scratch: &mut [u8; 255]) -> Result<Outcome, MachineFault>
+        ensures model { view S.meaning self.new ≡ (on_enc S.scheme (view S.meaning self.old) payload.now).model }
+        ensures answer { result ≡ (on_enc S.scheme (view S.meaning self.old) payload.now).answer }
+    {
+        let opened = met_in(self.state, self.open(payload, scratch))?;
+        if !met_in(self.state, self.is_next(opened))? {
+            return Ok(Outcome::quiet(Confirmation::Dropped, 0, 0));
+        }
+        let (_, number, length) = opened;
+        self.number = number;
+        self.held = Held::new(&scratch[..length]);
+        Ok(Outcome::quiet(Confirmation::DataAvailable, 0, 0))
+    }
+
+    // The lent bytes are zeros after, since data lay in them: they are lent because a contract cannot speak of a local.
+    fn enter_cleanly(
+        &mut self,
+        payload: &[u8],
+        scratch: &mut [u8; 255],
+    ) -> Result<Outcome, MachineFault>
+        ensures model { view S.meaning self.new ≡ (on_enc S.scheme (view S.meaning self.old) payload.now).model }
+        ensures answer { result ≡ (on_enc S.scheme (view S.meaning self.old) payload.now).answer }
+        ensures cleared { scratch.new ≡ replicate 255 0 }
+    {
+        let entered = self.enter(payload, scratch);
+        scratch.fill(0);
+        entered
+    }
+
+    // Confirmed_SCH: a record. It is never answered by a frame, but by an ERROR.
+    pub(super) fn on_enc(&mut self, payload: &[u8]) -> Result<Outcome, MachineFault>
+        ensures model { view S.meaning self.new ≡ (on_enc S.scheme (view S.meaning self.old) payload.now).model }
+        ensures answer { result ≡ (on_enc S.scheme (view S.meaning self.old) payload.now).answer }
+        ensures silent { (on_enc S.scheme (view S.meaning self.old) payload.now).reply ≡ [] }
+    {
+        self.enter_cleanly(payload, &mut [0; 255])
+    }
+}

@@ -1,0 +1,78 @@
+ghost use Rattle.std.specs.Prelude.{◌≡◌, ◌≤◌, length, IfErr};
+ghost use Rattle.std.specs.Str.{bytes_eq};
+ghost use Rattle.buffers.specs.Buffers.{over};
+ghost use Rattle.protocol.specs.Steps.{verified, confirmed, on_vfy_req, on_vfy_res};
+ghost use Rattle.entity.specs.Views.{view};
+ghost use Rattle.entity.specs.Asked.{made_for, model_after};
+
+use super::Entity;
+use super::asked::derive;
+use crate::bytes::put;
+use frame::{Body, Service};
+use protocol::{Confirmation, MachineFault, Outcome, State, SuiteFault, met_in};
+use suite::{Role, Suite};
+
+impl<S: Suite> Entity<S> {
+    // Compares the peer's check value with that of its role.
+    fn verify(&self, role: Role, payload: &[u8]) -> Result<(), SuiteFault>
+        ensures { result ≡ verified S.scheme (view S.meaning self.now) role payload.now }
+    {
+        let mut scratch = [0; 255];
+        if payload == self.check_value(role, &mut scratch)? {
+            Ok(())
+        } else {
+            Err(SuiteFault::WrongCheck)
+        }
+    }
+
+    // Puts the service into effect, and answers the serial of the key made for it: SSE needs none.
+    fn confirm(&mut self) -> Result<u32, SuiteFault>
+        ensures model { view S.meaning self.new ≡ model_after (view S.meaning self.old) (confirmed S.scheme (view S.meaning self.old) self.old.service) }
+        ensures answer { result ≡ made_for (confirmed S.scheme (view S.meaning self.old) self.old.service) }
+    {
+        match self.service {
+            Service::Sse => {
+                self.state = State::ConfirmedSse;
+                Ok(0)
+            }
+            Service::Sch => {
+                self.link = derive(&mut self.suite, self.secret)?;
+                self.number = S::numbers().first_number;
+                self.state = State::ConfirmedSch;
+                Ok(self.link)
+            }
+        }
+    }
+
+    // Established_Recipient: the Recipient compares, and answers by its own check value.
+    pub(super) fn on_vfy_req(
+        &mut self,
+        payload: &[u8],
+        reply: &mut [u8],
+    ) -> Result<Outcome, MachineFault>
+        requires { 255 ≤ length reply.old }
+        ensures model { view S.meaning self.new ≡ (on_vfy_req S.scheme (view S.meaning self.old) payload.now).model }
+        ensures answer { result ≡ (on_vfy_req S.scheme (view S.meaning self.old) payload.now).answer }
+        ensures reply { reply.new ≡ over (on_vfy_req S.scheme (view S.meaning self.old) payload.now).reply reply.old }
+        ensures untouched { IfErr result (λ f. reply.new ≡ reply.old) }
+    {
+        let state = self.state;
+        met_in(state, self.verify(Role::Sender, payload))?;
+        let mut scratch = [0; 255];
+        let own = met_in(state, self.check_value(Role::Recipient, &mut scratch))?;
+        let made = met_in(state, self.confirm())?;
+        let length = put(self.service, Body::VfyRes(own), reply);
+        Ok(Outcome::quiet(Confirmation::Established, length, made))
+    }
+
+    // Established_Sender: the Sender compares.
+    pub(super) fn on_vfy_res(&mut self, payload: &[u8]) -> Result<Outcome, MachineFault>
+        ensures model { view S.meaning self.new ≡ (on_vfy_res S.scheme (view S.meaning self.old) payload.now).model }
+        ensures answer { result ≡ (on_vfy_res S.scheme (view S.meaning self.old) payload.now).answer }
+    {
+        let state = self.state;
+        met_in(state, self.verify(Role::Recipient, payload))?;
+        let made = met_in(state, self.confirm())?;
+        Ok(Outcome::quiet(Confirmation::Established, 0, made))
+    }
+}

@@ -1,0 +1,162 @@
+-- What each call of an entity answers, writes and leaves.
+use Rattle.std.specs.Prelude.{ℕ, ◌+◌, Bool, false, cond, not, ◌&&◌, ◌||◌, List, [], ◌∷◌, length, Some, None, Ok, Err, Option, Result, ◌==◌, nat_lt, nat_le}
+use Rattle.frame.specs.declared.types.Service.{Service}
+use Rattle.frame.specs.declared.types.Service.TheVariants.{Sse, Sch}
+use Rattle.frame.specs.declared.faults.CodecFault.{CodecFault}
+use Rattle.frame.specs.declared.faults.FaultCode.{FaultCode}
+use Rattle.frame.specs.Frames.{Said, act_req, act_res, vfy_req, vfy_res, enc, tmn, error, Parts}
+use Rattle.frame.specs.Reading.{Reading, message, refused as unread, fault, reading, svc_bits, msg_bits}
+use Rattle.suite.specs.declared.types.Role.TheVariants.{Sender}
+use Rattle.suite.specs.declared.types.Denial.{Denial}
+use Rattle.suite.specs.Numbers.{role_byte}
+use Rattle.suite.specs.Schemes.{Scheme}
+use Rattle.suite.specs.Calls.{wrong_seed, no_room, sealed}
+use Rattle.protocol.specs.declared.states.State.{State}
+use Rattle.protocol.specs.declared.states.State.TheVariants as st
+use Rattle.protocol.specs.declared.outcomes.Confirmation.{Confirmation}
+use Rattle.protocol.specs.declared.outcomes.Confirmation.TheVariants as conf
+use Rattle.protocol.specs.declared.outcomes.Outcome.{Outcome}
+use Rattle.protocol.specs.declared.refusals.Refusal.{Refusal}
+use Rattle.protocol.specs.declared.refusals.Refusal.TheVariants as no
+use Rattle.protocol.specs.declared.faults.Fault.{Fault}
+use Rattle.protocol.specs.declared.faults.MachineFault.{MachineFault}
+use Rattle.protocol.specs.Numbers.{state_mark, cause_code, codec_of}
+use Rattle.protocol.specs.Outcomes.{quiet}
+use Rattle.protocol.specs.Models.{Model, idle, keys_of}
+use Rattle.protocol.specs.Steps.{Step, said_by, is_empty, record_length, same_service, heard}
+
+-- a call with its bytes; room is the length of the buffer that it may write
+pub data Call : Type 0 where
+  invoke : (service : Service) (pid : ℕ) (seed : List ℕ) (room : ℕ) → Call
+  send : (plain : List ℕ) (room : ℕ) → Call
+  retrieve_data : (room : ℕ) → Call
+  terminate : (room : ℕ) → Call
+  frame : (bytes seed : List ℕ) (room : ℕ) → Call
+  release : Call
+
+-- what a call leaves of the entity, what it answers, and what it writes to the front of the buffer
+pub record Turn : Type 0 where
+  pub model : Model
+  pub answer : Result Outcome Refusal
+  pub reply : List ℕ
+
+abbrev pub refused : Model → Refusal → Turn
+refused m refusal = record { model = m; answer = Err refusal; reply = [] }
+
+abbrev pub done : Model → Confirmation → List ℕ → Turn
+done m confirmation reply = record { model = m; answer = Ok (quiet confirmation (length reply) 0); reply = reply }
+
+-- the session ends
+abbrev pub ended : Model → Confirmation → List ℕ → Option Fault → Turn
+ended m confirmation reply f = record {
+  model = idle m;
+  answer = Ok (record { confirmation = confirmation; length = length reply; made = 0; destroyed = keys_of m; fault = f });
+  reply = reply;
+}
+
+-- Requests. Refusals are tried in the order in which they stand.
+
+abbrev pub in_state : Model → State → Bool
+in_state m state = state_mark m.state == state_mark state
+
+abbrev pub invoke_turn : Scheme → Model → Service → ℕ → List ℕ → ℕ → Turn
+invoke_turn s m service pid seed room =
+    cond (no_room room) (refused m no.ReplyBuffer)
+    (cond (wrong_seed seed) (refused m no.SeedLength)
+    (cond (not (in_state m st.Idle)) (refused m no.WrongState)
+    (cond (not (pid == s.pid)) (refused m no.OtherPid)
+    (done (record m { state = st.Select; service = service; role = Sender; seed = seed }) conf.Nothing
+    (said_by service (act_req pid (s.offer_of m.means.root seed)))))))
+
+-- the number rises, and the record has the raised one
+abbrev pub sending : Model → Result (List ℕ) Denial → Turn
+sending m (Ok payload) = done (record m { number = m.number + 1 }) conf.DataSent (said_by Sch (enc payload))
+sending m (Err e) = refused m no.WrongState
+
+abbrev pub send_turn : Scheme → Model → List ℕ → ℕ → Turn
+send_turn s m plain room =
+    cond (no_room room) (refused m no.ReplyBuffer)
+    (cond (not (in_state m st.ConfirmedSch)) (refused m no.WrongState)
+    (cond (not (record_length (length plain))) (refused m no.DataLength)
+    (cond (nat_le s.final m.number) (refused m no.NumberSpent)
+    (sending m (sealed s m.means m.link (role_byte m.role) (m.number + 1) plain 255)))))
+
+abbrev pub data_turn : Model → ℕ → Turn
+data_turn m room =
+    cond (not (in_state m st.ConfirmedSch)) (refused m no.WrongState)
+    (cond (is_empty m.held) (refused m no.NothingHeld)
+    (cond (nat_lt room (length m.held)) (refused m no.SmallBuffer)
+    (done (record m { held = [] }) conf.Nothing m.held)))
+
+abbrev pub terminate_turn : Model → ℕ → Turn
+terminate_turn m room =
+    cond (no_room room) (refused m no.ReplyBuffer)
+    (cond (not (in_state m st.ConfirmedSse || in_state m st.ConfirmedSch)) (refused m no.WrongState)
+    (ended m conf.Terminated (said_by m.service (tmn [])) None))
+
+abbrev pub release_turn : Model → Turn
+release_turn m = ended m (cond (in_state m st.Idle) conf.Nothing conf.Terminated) [] None
+
+-- Frames.
+
+-- a record of the session's service, in Confirmed_SCH while data is held
+abbrev pub is_record : State → Said → Bool
+is_record state (act_req pid p) = false
+is_record state (act_res p) = false
+is_record state (vfy_req p) = false
+is_record state (vfy_res p) = false
+is_record state (enc p) = state_mark state == state_mark st.ConfirmedSch
+is_record state (tmn p) = false
+is_record state (error p) = false
+
+abbrev pub blocked : Model → Parts → Bool
+blocked m p = is_record m.state p.said && same_service p.service m.service && not (is_empty m.held)
+
+-- what is heard of a frame, a message or a codec fault; or why it is refused
+abbrev pub admitted : Model → Reading → Result (Result Parts CodecFault) Refusal
+admitted m (unread number) = Err no.FrameLength
+admitted m (fault code) = Ok (Err (codec_of code))
+admitted m (message p) = cond (blocked m p) (Err no.DataHeld) (Ok (Ok p))
+
+-- A fault is answered by ERROR: letter, digit, 00. It is of the session's service; in Idle, of the frame's if that is SCH, else SSE.
+
+abbrev pub error_service : Service → ℕ → State → Service
+error_service service sep state = cond (state_mark state == state_mark st.Idle) (cond (svc_bits sep == 1) Sch Sse) service
+
+abbrev pub error_payload : FaultCode → List ℕ
+error_payload code = code.letter ∷ code.digit ∷ 0 ∷ []
+
+abbrev pub faulted : Model → ℕ → MachineFault → Turn
+faulted m sep f =
+    ended m conf.Error
+    (said_by (error_service m.service sep f.state) (error (error_payload (cause_code f.cause))))
+    (Some (record { machine = f; message = msg_bits sep }))
+
+abbrev pub settled : ℕ → Model → List ℕ → Result Outcome MachineFault → Turn
+settled sep m reply (Ok outcome) = record { model = m; answer = Ok outcome; reply = reply }
+settled sep m reply (Err f) = faulted m sep f
+
+abbrev pub settle : ℕ → Step → Turn
+settle sep step = settled sep step.model step.reply step.answer
+
+abbrev pub first_byte : List ℕ → ℕ
+first_byte [] = 0
+first_byte (b ∷ rest) = b
+
+abbrev pub taken : Scheme → Model → List ℕ → ℕ → Result (Result Parts CodecFault) Refusal → Turn
+taken s m seed sep (Ok h) = settle sep (heard s m seed h)
+taken s m seed sep (Err refusal) = refused m refusal
+
+abbrev pub frame_turn : Scheme → Model → List ℕ → List ℕ → ℕ → Turn
+frame_turn s m bytes seed room =
+    cond (no_room room) (refused m no.ReplyBuffer)
+    (cond (wrong_seed seed) (refused m no.SeedLength)
+    (taken s m seed (first_byte bytes) (admitted m (reading bytes))))
+
+abbrev pub turn : Scheme → Model → Call → Turn
+turn s m (invoke service pid seed room) = invoke_turn s m service pid seed room
+turn s m (send plain room) = send_turn s m plain room
+turn s m (retrieve_data room) = data_turn m room
+turn s m (terminate room) = terminate_turn m room
+turn s m (frame bytes seed room) = frame_turn s m bytes seed room
+turn s m release = release_turn m

@@ -1,0 +1,214 @@
+-- What a message does in each state.
+use Rattle.std.specs.Prelude.{ℕ, ◌+◌, Bool, true, false, cond, not, ◌&&◌, ◌||◌, List, [], length, Some, None, Ok, Err, Option, Result, ◌==◌, nat_lt}
+use Rattle.std.specs.Str.{bytes_eq}
+use Rattle.frame.specs.declared.types.Service.{Service}
+use Rattle.frame.specs.declared.types.Service.TheVariants.{Sse, Sch}
+use Rattle.frame.specs.declared.faults.CodecFault.{CodecFault}
+use Rattle.frame.specs.Numbers.{service_code}
+use Rattle.frame.specs.Frames.{Said, act_req, act_res, vfy_req, vfy_res, enc, tmn, error, Parts, wire}
+use Rattle.suite.specs.declared.types.Role.{Role}
+use Rattle.suite.specs.declared.types.Role.TheVariants.{Sender, Recipient}
+use Rattle.suite.specs.declared.types.KeyKind.TheVariants.{SharedSecret, LinkKey}
+use Rattle.suite.specs.declared.types.Denial.{Denial}
+use Rattle.suite.specs.declared.types.Denial.TheVariants as denied
+use Rattle.suite.specs.Numbers.{role_byte}
+use Rattle.suite.specs.Schemes.{Scheme}
+use Rattle.suite.specs.Calls.{adding, agreed, derived, checked, opened}
+use Rattle.protocol.specs.declared.states.State.{State}
+use Rattle.protocol.specs.declared.states.State.TheVariants as st
+use Rattle.protocol.specs.declared.outcomes.Confirmation.{Confirmation}
+use Rattle.protocol.specs.declared.outcomes.Confirmation.TheVariants as conf
+use Rattle.protocol.specs.declared.outcomes.Outcome.{Outcome}
+use Rattle.protocol.specs.declared.faults.SuiteFault.{SuiteFault}
+use Rattle.protocol.specs.declared.faults.SuiteFault.TheVariants.{OtherPid, BadOffer, NoKey, WrongCheck, BadRecord}
+use Rattle.protocol.specs.declared.faults.Cause.{Cause}
+use Rattle.protocol.specs.declared.faults.Cause.TheVariants.{Codec, NotAllowed, OtherService, Suite, WrongNumber}
+use Rattle.protocol.specs.declared.faults.MachineFault.{MachineFault}
+use Rattle.protocol.specs.Outcomes.{quiet}
+use Rattle.protocol.specs.Models.{Model, idle, keys_of}
+
+-- what a message leaves of the entity, its outcome or the fault that is met, and the bytes that it is answered by
+pub record Step : Type 0 where
+  pub model : Model
+  pub answer : Result Outcome MachineFault
+  pub reply : List ℕ
+
+-- no fault, and no key destroyed
+abbrev pub moved : Model → Confirmation → ℕ → List ℕ → Step
+moved m confirmation made reply = record { model = m; answer = Ok (quiet confirmation (length reply) made); reply = reply }
+
+-- the session ends, without a reply
+abbrev pub ended_by : Model → Confirmation → Step
+ended_by m confirmation = record {
+  model = idle m;
+  answer = Ok (record { confirmation = confirmation; length = 0; made = 0; destroyed = keys_of m; fault = None });
+  reply = [];
+}
+
+-- a fault, with the state that it is met in
+abbrev pub fails : Model → Cause → Step
+fails m cause = record { model = m; answer = Err (record { cause = cause; state = m.state }); reply = [] }
+
+-- what follows where the suite finds no fault
+abbrev pub unless : {A : Type 0} → Model → Result A SuiteFault → (A → Step) → Step
+unless m (Ok x) f = f x
+unless m (Err e) f = fails m (Suite e)
+
+abbrev pub said_by : Service → Said → List ℕ
+said_by service said = wire (record { service = service; said = said })
+
+-- What is asked of the suite.
+
+-- S2 for an offer that is not fit, S3 for no further key; an entity gives rise to no other denial
+abbrev pub agree_fault : Denial → SuiteFault
+agree_fault denied.BadOffer = BadOffer
+agree_fault denied.Spent = NoKey
+agree_fault denied.Unfit = BadOffer
+agree_fault denied.Unknown = BadOffer
+
+abbrev pub faulty : {A : Type 0} → (Denial → SuiteFault) → Result A Denial → Result A SuiteFault
+faulty f (Ok x) = Ok x
+faulty f (Err e) = Err (f e)
+
+-- the value of the shared secret
+abbrev pub agreement : Scheme → Model → List ℕ → List ℕ → Role → Result (List ℕ) SuiteFault
+agreement s m seed offer role = faulty agree_fault (agreed s m.means seed offer (role_byte role))
+
+-- the check value of the shared secret for a role; S4 where there is none
+abbrev pub check_value : Scheme → Model → Role → Result (List ℕ) SuiteFault
+check_value s m role = faulty (λ e. WrongCheck) (checked s m.means m.secret (role_byte role) 255)
+
+-- the value of the link key; S3 where there is none
+abbrev pub link_value : Scheme → Model → Result (List ℕ) SuiteFault
+link_value s m = faulty (λ e. NoKey) (derived s m.means m.secret)
+
+-- the role, number and data of a payload; S5 where it is not good
+abbrev pub good : Result (Option (ℕ × ℕ × List ℕ)) Denial → Result (ℕ × ℕ × List ℕ) SuiteFault
+good (Ok (Some t)) = Ok t
+good (Ok None) = Err BadRecord
+good (Err e) = Err BadRecord
+
+abbrev pub opened_record : Scheme → Model → List ℕ → Result (ℕ × ℕ × List ℕ) SuiteFault
+opened_record s m payload = good (opened s m.means m.link payload 255)
+
+-- Idle. ACT_REQ: S1, then the Recipient agrees with the seed that the call brings, and answers by its offer.
+
+abbrev pub with_secret : Model → List ℕ → Model
+with_secret m value = record m { means = adding m.means SharedSecret value; secret = m.means.newest + 1 }
+
+abbrev pub as_recipient : Model → Service → List ℕ → Model
+as_recipient m service value = record (with_secret m value) { state = st.EstablishedRecipient; service = service; role = Recipient }
+
+abbrev pub on_act_req : Scheme → Model → Service → ℕ → List ℕ → List ℕ → Step
+on_act_req s m service pid offer seed =
+    cond (not (pid == s.pid)) (fails m (Suite OtherPid))
+    (unless m (agreement s m seed offer Recipient) (λ value.
+    moved (as_recipient m service value) conf.Nothing (m.means.newest + 1) (said_by service (act_res (s.offer_of m.means.root seed)))))
+
+-- Select. ACT_RES: the Sender agrees with the seed that it kept, and asks for verification by its check value.
+
+abbrev pub asking : Scheme → Model → ℕ → Step
+asking s m made =
+    unless m (check_value s m Sender) (λ check.
+    moved (record m { state = st.EstablishedSender }) conf.Nothing made (said_by m.service (vfy_req check)))
+
+abbrev pub on_act_res : Scheme → Model → List ℕ → Step
+on_act_res s m offer =
+    unless m (agreement s m m.seed offer Sender) (λ value.
+    asking s (with_secret m value) (m.means.newest + 1))
+
+-- Established. VFY: the peer's check value is compared, S4; for SCH the link key is derived, S3; the Recipient answers by its own check value.
+
+abbrev pub same_as : List ℕ → List ℕ → Result (Unit {0}) SuiteFault
+same_as check payload = cond (bytes_eq payload check) (Ok tt) (Err WrongCheck)
+
+abbrev pub compared : List ℕ → Result (List ℕ) SuiteFault → Result (Unit {0}) SuiteFault
+compared payload (Ok check) = same_as check payload
+compared payload (Err e) = Err e
+
+abbrev pub verified : Scheme → Model → Role → List ℕ → Result (Unit {0}) SuiteFault
+verified s m role payload = compared payload (check_value s m role)
+
+abbrev pub with_link : Scheme → Model → List ℕ → Model
+with_link s m value = record m {
+  means = adding m.means LinkKey value;
+  state = st.ConfirmedSch;
+  number = s.first;
+  link = m.means.newest + 1;
+}
+
+-- the entity in the service, and the serial of the key made for it
+abbrev pub linked : Scheme → Model → Result (List ℕ) SuiteFault → Result (Model × ℕ) SuiteFault
+linked s m (Ok value) = Ok (with_link s m value, m.means.newest + 1)
+linked s m (Err e) = Err e
+
+abbrev pub confirmed : Scheme → Model → Service → Result (Model × ℕ) SuiteFault
+confirmed s m Sse = Ok (record m { state = st.ConfirmedSse }, 0)
+confirmed s m Sch = linked s m (link_value s m)
+
+abbrev pub on_vfy_req : Scheme → Model → List ℕ → Step
+on_vfy_req s m payload =
+    unless m (verified s m Sender payload) (λ _.
+    unless m (check_value s m Recipient) (λ own.
+    unless m (confirmed s m m.service) (λ c.
+    moved c.0 conf.Established c.1 (said_by m.service (vfy_res own)))))
+
+abbrev pub on_vfy_res : Scheme → Model → List ℕ → Step
+on_vfy_res s m payload =
+    unless m (verified s m Recipient payload) (λ _.
+    unless m (confirmed s m m.service) (λ c.
+    moved c.0 conf.Established c.1 []))
+
+-- Confirmed_SCH. ENC.
+
+abbrev pub is_empty : List ℕ → Bool
+is_empty xs = length xs == 0
+
+-- how many bytes the data of a record has
+abbrev pub record_length : ℕ → Bool
+record_length n = not (n == 0) && not (nat_lt 200 n)
+
+-- The sequence check of role, number and data length: whether the record is a new one. The same number again is dropped, whatever the role; then
+-- comes S5 for one's own role, and Q1 for a number that is not the next or above the last.
+abbrev pub sequenced : Scheme → Model → ℕ × ℕ × ℕ → Result Bool Cause
+sequenced s m t =
+    cond (not (record_length t.2)) (Err (Suite BadRecord))
+    (cond (t.1 == m.number) (Ok false)
+    (cond (t.0 == role_byte m.role) (Err (Suite BadRecord))
+    (cond (not (t.1 == m.number + 1) || nat_lt s.final t.1) (Err WrongNumber)
+    (Ok true))))
+
+abbrev pub entered : Model → List ℕ → Result Bool Cause → Step
+entered m plain (Err cause) = fails m cause
+entered m plain (Ok false) = moved m conf.Dropped 0 []
+entered m plain (Ok true) = moved (record m { number = m.number + 1; held = plain }) conf.DataAvailable 0 []
+
+abbrev pub on_enc : Scheme → Model → List ℕ → Step
+on_enc s m payload =
+    unless m (opened_record s m payload) (λ t.
+    entered m t.2 (sequenced s m (t.0, t.1, length t.2)))
+
+-- The state and the message together decide. M1 where nothing else is said; outside Idle another service than the session's is M2. An ERROR is
+-- taken in every state and of every service.
+
+abbrev pub same_service : Service → Service → Bool
+same_service a b = service_code a == service_code b
+
+abbrev pub in_session : Model → Service → Step → Step
+in_session m service step = cond (not (same_service service m.service)) (fails m OtherService) step
+
+abbrev pub by_state : Scheme → Model → List ℕ → Service → State → Said → Step
+by_state s m seed service state (error p) = ended_by m conf.Error
+by_state s m seed service st.Idle (act_req pid offer) = on_act_req s m service pid offer seed
+by_state s m seed service st.Select (act_res offer) = in_session m service (on_act_res s m offer)
+by_state s m seed service st.EstablishedSender (vfy_res check) = in_session m service (on_vfy_res s m check)
+by_state s m seed service st.EstablishedRecipient (vfy_req check) = in_session m service (on_vfy_req s m check)
+by_state s m seed service st.ConfirmedSse (tmn p) = in_session m service (ended_by m conf.Terminated)
+by_state s m seed service st.ConfirmedSch (tmn p) = in_session m service (ended_by m conf.Terminated)
+by_state s m seed service st.ConfirmedSch (enc payload) = in_session m service (on_enc s m payload)
+by_state s m seed service state said = fails m NotAllowed
+
+-- a frame that was read: a message or a codec fault
+abbrev pub heard : Scheme → Model → List ℕ → Result Parts CodecFault → Step
+heard s m seed (Ok p) = by_state s m seed p.service m.state p.said
+heard s m seed (Err f) = fails m (Codec f)

@@ -1,0 +1,216 @@
+ghost use Rattle.std.specs.Prelude.{◌≡◌, Some};
+ghost use Rattle.protocol.specs.declared.faults.Cause.TheVariants.{Codec as CodecCause, Suite as SuiteCause};
+ghost use Rattle.protocol.specs.Numbers.{suite_code, cause_code};
+ghost use Rattle.protocol.specs.Wraps.{met, at};
+ghost use Rattle.protocol.specs.Words.{suite_words, cause_words};
+
+use super::states::State;
+use frame::{CodecFault, FaultCode};
+use std::error::Error;
+use std::fmt;
+
+// What is wrong with what a message brings for the suite.
+#[derive(Clone, Copy, Debug, PartialEq, Eq)]
+pub enum SuiteFault {
+    // S1: the PID is not the suite's.
+    OtherPid,
+    // S2: the offer is not fit.
+    BadOffer,
+    // S3: the suite makes no further key.
+    NoKey,
+    // S4: the check value is another.
+    WrongCheck,
+    // S5: the record is not good, is one's own, or its data has no byte or more than 200.
+    BadRecord,
+}
+
+impl SuiteFault {
+    pub fn code(self) -> FaultCode
+        ensures { result ≡ suite_code self }
+    {
+        let digit = match self {
+            SuiteFault::OtherPid => b'1',
+            SuiteFault::BadOffer => b'2',
+            SuiteFault::NoKey => b'3',
+            SuiteFault::WrongCheck => b'4',
+            SuiteFault::BadRecord => b'5',
+        };
+        FaultCode {
+            letter: b'S',
+            digit,
+            place: 1,
+        }
+    }
+}
+
+impl fmt::Display for SuiteFault {
+    ghost output = { λ fault. Some (suite_words fault) };
+
+    fn fmt<W: fmt::Write>(&self, f: &mut fmt::Formatter<W>) -> fmt::Result {
+        f.write_str(match self {
+            SuiteFault::OtherPid => "the PID is not the suite's",
+            SuiteFault::BadOffer => "the offer is not fit",
+            SuiteFault::NoKey => "the suite makes no further key",
+            SuiteFault::WrongCheck => "the check value is wrong",
+            SuiteFault::BadRecord => "the record is not good",
+        })
+    }
+}
+
+impl Error for SuiteFault {}
+
+// What is wrong with a frame, by layer.
+#[derive(Clone, Copy, Debug, PartialEq, Eq)]
+pub enum Cause {
+    Codec(CodecFault),
+    // M1: the message is not allowed in this state.
+    NotAllowed,
+    // M2: the message is of another service than the session.
+    OtherService,
+    Suite(SuiteFault),
+    // Q1: the number is not the next, or above the last.
+    WrongNumber,
+}
+
+impl Cause {
+    pub fn code(self) -> FaultCode
+        ensures { result ≡ cause_code self }
+    {
+        match self {
+            Cause::Codec(fault) => fault.code(),
+            Cause::NotAllowed => FaultCode {
+                letter: b'M',
+                digit: b'1',
+                place: 0,
+            },
+            Cause::OtherService => FaultCode {
+                letter: b'M',
+                digit: b'2',
+                place: 0,
+            },
+            Cause::Suite(fault) => fault.code(),
+            Cause::WrongNumber => FaultCode {
+                letter: b'Q',
+                digit: b'1',
+                place: 1,
+            },
+        }
+    }
+}
+
+impl fmt::Display for Cause {
+    ghost output = { λ cause. Some (cause_words cause) };
+
+    fn fmt<W: fmt::Write>(&self, f: &mut fmt::Formatter<W>) -> fmt::Result {
+        match self {
+            Cause::Codec(fault) => fault.fmt(f),
+            Cause::NotAllowed => f.write_str("the message is not allowed in this state"),
+            Cause::OtherService => f.write_str("the session is of the other service"),
+            Cause::Suite(fault) => fault.fmt(f),
+            Cause::WrongNumber => f.write_str("the number is not the next"),
+        }
+    }
+}
+
+impl From<CodecFault> for Cause {
+    ghost from_gives = { λ x r. r ≡ CodecCause x };
+
+    fn from(fault: CodecFault) -> Self {
+        Self::Codec(fault)
+    }
+}
+
+impl From<SuiteFault> for Cause {
+    ghost from_gives = { λ x r. r ≡ SuiteCause x };
+
+    fn from(fault: SuiteFault) -> Self {
+        Self::Suite(fault)
+    }
+}
+
+// The machine's fault: the cause whole, and the state that it was met in.
+#[derive(Clone, Copy, Debug, PartialEq, Eq)]
+pub struct MachineFault {
+    pub cause: Cause,
+    pub state: State,
+}
+
+// The entity's fault: the machine's whole, and the code of the message at which it was met.
+#[derive(Clone, Copy, Debug, PartialEq, Eq)]
+pub struct Fault {
+    pub machine: MachineFault,
+    pub message: u8,
+}
+
+impl Fault {
+    pub fn code(self) -> FaultCode
+        ensures { result ≡ cause_code self.machine.cause }
+    {
+        self.machine.cause.code()
+    }
+}
+
+// The cause, in words.
+impl fmt::Display for Fault {
+    ghost output = { λ fault. Some (cause_words fault.machine.cause) };
+
+    fn fmt<W: fmt::Write>(&self, f: &mut fmt::Formatter<W>) -> fmt::Result {
+        self.machine.cause.fmt(f)
+    }
+}
+
+impl Error for Fault {}
+
+// A fault on its way up, with the state that it was met in.
+#[derive(Drop)]
+pub struct Met<E> {
+    pub fault: E,
+    pub state: State,
+}
+
+impl<E> From<Met<E>> for MachineFault
+where
+    Cause: From<E>,
+{
+    ghost from_gives = { λ x r. ⟦<Cause as From<E>>⟧.from_gives x.fault r.cause × (r.state ≡ x.state) };
+
+    fn from(met: Met<E>) -> Self {
+        let Met { fault, state } = met;
+        Self {
+            cause: fault.into(),
+            state,
+        }
+    }
+}
+
+// A fault on its way up, with the code of the message at which it was met.
+#[derive(Drop)]
+pub struct At<E> {
+    pub fault: E,
+    pub message: u8,
+}
+
+impl From<At<MachineFault>> for Fault {
+    ghost from_gives = { λ x r. r ≡ record { machine = x.fault; message = x.message } };
+
+    fn from(at: At<MachineFault>) -> Self {
+        Self {
+            machine: at.fault,
+            message: at.message,
+        }
+    }
+}
+
+// A result whose error tells the state.
+pub fn met_in<T, E>(state: State, outcome: Result<T, E>) -> Result<T, Met<E>>
+    ensures { result ≡ met state outcome }
+{
+    outcome.map_err(|fault| Met { fault, state })
+}
+
+// A result whose error tells the message.
+pub fn at_message<T, E>(message: u8, outcome: Result<T, E>) -> Result<T, At<E>>
+    ensures { result ≡ at message outcome }
+{
+    outcome.map_err(|fault| At { fault, message })
+}

@@ -1,0 +1,73 @@
+ghost use Rattle.std.specs.Prelude.{◌≡◌, Some};
+ghost use Rattle.protocol.specs.Numbers.{refusal_number, refused_frame};
+ghost use Rattle.protocol.specs.Words.{refusal_words};
+
+use std::error::Error;
+use std::fmt;
+
+// Why a call is refused. A refused call changes nothing.
+#[derive(Clone, Copy, Debug, PartialEq, Eq)]
+pub enum Refusal {
+    // The reply buffer has fewer than 255 bytes.
+    ReplyBuffer = 1,
+    // The seed has not sixteen bytes.
+    SeedLength = 2,
+    // The frame has no byte or more than 255.
+    FrameLength = 3,
+    // A record came while the data of the one before it is still held.
+    DataHeld = 4,
+    // The request is not allowed in this state.
+    WrongState = 5,
+    // The PID is not the suite's.
+    OtherPid = 6,
+    // The data to be sent has no byte or more than 200.
+    DataLength = 7,
+    // The number is the last.
+    NumberSpent = 8,
+    // No data is held.
+    NothingHeld = 9,
+    // The buffer is shorter than what is to be retrieved.
+    SmallBuffer = 10,
+}
+
+impl Refusal {
+    // A cast under a name of its own: `u8::from` would not say which number it is.
+    pub fn number(self) -> u8
+        ensures { result ≡ refusal_number self }
+    {
+        self as u8
+    }
+}
+
+impl fmt::Display for Refusal {
+    ghost output = { λ refusal. Some (refusal_words refusal) };
+
+    fn fmt<W: fmt::Write>(&self, f: &mut fmt::Formatter<W>) -> fmt::Result {
+        f.write_str(match self {
+            Refusal::ReplyBuffer => "the reply buffer has fewer than 255 bytes",
+            Refusal::SeedLength => "a seed has 16 bytes",
+            Refusal::FrameLength => "a frame has 1 to 255 bytes",
+            Refusal::DataHeld => "the data of the record before is still held",
+            Refusal::WrongState => "the request is not allowed in this state",
+            Refusal::OtherPid => "the PID is not the suite's",
+            Refusal::DataLength => "the data of a record has 1 to 200 bytes",
+            Refusal::NumberSpent => "the last number is used",
+            Refusal::NothingHeld => "no data is held",
+            Refusal::SmallBuffer => "the buffer is too short",
+        })
+    }
+}
+
+impl Error for Refusal {}
+
+// The numbers of the two are those of one table.
+impl From<frame::Refusal> for Refusal {
+    ghost from_gives = { λ x r. r ≡ refused_frame x };
+
+    fn from(refusal: frame::Refusal) -> Self {
+        match refusal {
+            frame::Refusal::ReplyBuffer => Self::ReplyBuffer,
+            frame::Refusal::FrameLength => Self::FrameLength,
+        }
+    }
+}
