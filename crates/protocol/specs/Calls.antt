@@ -10,7 +10,7 @@ use Rattle.suite.specs.declared.types.Role.TheVariants.{Sender}
 use Rattle.suite.specs.declared.types.Denial.{Denial}
 use Rattle.suite.specs.Numbers.{role_byte}
 use Rattle.suite.specs.Schemes.{Scheme}
-use Rattle.suite.specs.Calls.{wrong_seed, no_room, sealed}
+use Rattle.suite.specs.Calls.{wrong_seed, no_room, sealed, revealed}
 use Rattle.protocol.specs.declared.states.State.{State}
 use Rattle.protocol.specs.declared.states.State.TheVariants as st
 use Rattle.protocol.specs.declared.outcomes.Confirmation.{Confirmation}
@@ -30,6 +30,7 @@ pub data Call : Type 0 where
   invoke : (service : Service) (pid : ℕ) (seed : List ℕ) (room : ℕ) → Call
   send : (plain : List ℕ) (room : ℕ) → Call
   retrieve_data : (room : ℕ) → Call
+  retrieve_secret : (room : ℕ) → Call
   terminate : (room : ℕ) → Call
   frame : (bytes seed : List ℕ) (room : ℕ) → Call
   release : Call
@@ -87,6 +88,16 @@ data_turn m room =
     (cond (is_empty m.held) (refused m no.NothingHeld)
     (cond (nat_lt room (length m.held)) (refused m no.SmallBuffer)
     (done (record m { held = [] }) conf.Nothing m.held)))
+
+abbrev pub revealing : Model → Result (List ℕ) Denial → Turn
+revealing m (Ok value) = done m conf.Nothing value
+revealing m (Err e) = refused m no.WrongState
+
+abbrev pub secret_turn : Model → ℕ → Turn
+secret_turn m room =
+    cond (not (in_state m st.ConfirmedSse)) (refused m no.WrongState)
+    (cond (nat_lt room 16) (refused m no.SmallBuffer)
+    (revealing m (revealed m.means m.secret room)))
 
 abbrev pub terminate_turn : Model → ℕ → Turn
 terminate_turn m room =
@@ -157,6 +168,7 @@ abbrev pub turn : Scheme → Model → Call → Turn
 turn s m (invoke service pid seed room) = invoke_turn s m service pid seed room
 turn s m (send plain room) = send_turn s m plain room
 turn s m (retrieve_data room) = data_turn m room
+turn s m (retrieve_secret room) = secret_turn m room
 turn s m (terminate room) = terminate_turn m room
 turn s m (frame bytes seed room) = frame_turn s m bytes seed room
 turn s m release = release_turn m
