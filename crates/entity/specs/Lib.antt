@@ -1,2 +1,2 @@
-pub mod Asked
+pub mod Results
 pub mod Views

@@ -5,14 +5,14 @@ use frame::Service;
 use protocol::State;
 use suite::Role;
 
-mod activation;
-mod asked;
+mod agreement;
 mod ends;
 mod frames;
 mod machine;
 mod making;
 mod records;
 mod requests;
+mod suite_calls;
 mod verification;
 
 // One end of the link, over its suite. It can be neither copied nor let go, only put away, so that no live key is lost sight of.
@@ -22,7 +22,7 @@ pub struct Entity<S> {
     // The session's; in Idle, that of the last session.
     service: Service,
     role: Role,
-    // Zeros but from the invocation to the peer's offer.
+    // Kept from the invocation on; zeros in Idle.
     seed: [u8; 16],
     // The number of the newest record of the session.
     number: u32,

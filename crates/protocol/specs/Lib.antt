@@ -5,3 +5,4 @@ pub mod Outcomes
 pub mod Models
 pub mod Steps
 pub mod Calls
+pub mod Ends

@@ -6,7 +6,7 @@ ghost use Rattle.frame.specs.Reading.{reading};
 ghost use Rattle.protocol.specs.Steps.{heard as heard_step};
 ghost use Rattle.protocol.specs.Calls.{turn, frame as frame_call, blocked, admitted, settle, taken, first_byte};
 ghost use Rattle.entity.specs.Views.{view};
-ghost use Rattle.entity.specs.Asked.{heard_parts};
+ghost use Rattle.entity.specs.Results.{heard_parts};
 
 use super::Entity;
 use crate::bytes::{has_room, sixteen};

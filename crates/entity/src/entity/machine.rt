@@ -3,7 +3,7 @@ ghost use Rattle.buffers.specs.Buffers.{over};
 ghost use Rattle.frame.specs.Frames.{said_by as says};
 ghost use Rattle.protocol.specs.Steps.{by_state, heard as heard_step};
 ghost use Rattle.entity.specs.Views.{view};
-ghost use Rattle.entity.specs.Asked.{heard_parts, other_service};
+ghost use Rattle.entity.specs.Results.{heard_parts, other_service};
 
 use super::Entity;
 use frame::{Body, CodecFault, Message, Service};

@@ -1,5 +1,6 @@
 ghost use Rattle.std.specs.Prelude.{◌≡◌};
 ghost use Rattle.protocol.specs.Models.{fresh, idle, keys_of};
+ghost use Rattle.protocol.specs.Ends.{EveryCallEnds};
 ghost use Rattle.entity.specs.Views.{view};
 
 use super::Entity;
@@ -10,9 +11,11 @@ use protocol::{Destroyed, State};
 use suite::{Role, Suite};
 
 impl<S: Suite> Entity<S> {
-    // A new entity, in Idle. The activation is used up: another entity takes another exchange.
+    // A new entity, in Idle. The activation is used up: another entity takes another exchange. Whatever it is then called with, each call
+    // ends refused with nothing altered, or answered, a fault by an ERROR that tells it.
     pub fn new(_activation: Agreed, suite: S) -> Entity<S>
-        ensures { view S.meaning result ≡ fresh (S.meaning suite) }
+        ensures model { view S.meaning result ≡ fresh (S.meaning suite) }
+        ensures ends { EveryCallEnds S.scheme }
     {
         Entity {
             suite,

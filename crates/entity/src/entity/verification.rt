@@ -3,10 +3,10 @@ ghost use Rattle.std.specs.Str.{bytes_eq};
 ghost use Rattle.buffers.specs.Buffers.{over};
 ghost use Rattle.protocol.specs.Steps.{verified, confirmed, on_vfy_req, on_vfy_res};
 ghost use Rattle.entity.specs.Views.{view};
-ghost use Rattle.entity.specs.Asked.{made_for, model_after};
+ghost use Rattle.entity.specs.Results.{made_for, model_after};
 
 use super::Entity;
-use super::asked::derive;
+use super::suite_calls::derive;
 use crate::bytes::put;
 use frame::{Body, Service};
 use protocol::{Confirmation, MachineFault, Outcome, State, SuiteFault, met_in};

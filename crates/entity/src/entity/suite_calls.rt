@@ -6,7 +6,7 @@ ghost use Rattle.suite.specs.Calls.{agreed, derived, sealed, serial_answer, afte
 ghost use Rattle.protocol.specs.declared.faults.SuiteFault.TheVariants.{NoKey};
 ghost use Rattle.protocol.specs.Steps.{faulty, agree_fault, check_value, opened_record};
 ghost use Rattle.entity.specs.Views.{view};
-ghost use Rattle.entity.specs.Asked.{payload_shown, record_shown};
+ghost use Rattle.entity.specs.Results.{payload_shown, record_shown};
 
 use super::Entity;
 use protocol::{Refusal, SuiteFault};

@@ -1,4 +1,4 @@
--- What the answers of a suite are to the definitions, with what lies in the front of the lent bytes.
+-- What the results of calls are to the definitions.
 use Rattle.std.specs.Prelude.{ℕ, cond, List, take, Ok, Err, Result}
 use Rattle.frame.specs.declared.types.Message.{Message}
 use Rattle.frame.specs.declared.types.Service.{Service}

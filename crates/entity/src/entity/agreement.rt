@@ -4,7 +4,7 @@ ghost use Rattle.protocol.specs.Steps.{on_act_req, on_act_res, asking};
 ghost use Rattle.entity.specs.Views.{view};
 
 use super::Entity;
-use super::asked::agree;
+use super::suite_calls::agree;
 use crate::bytes::put;
 use frame::{Body, Service};
 use protocol::{Confirmation, MachineFault, Outcome, State, SuiteFault, met_in};

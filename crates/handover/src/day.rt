@@ -1,0 +1,48 @@
+// The records of a day, and what the link does to the frame of each.
+
+// What becomes of a frame that was sent.
+#[derive(Clone, Copy)]
+pub(super) enum Fate {
+    Arrives,
+    Lost,
+    // It comes back to its sender.
+    Echoed,
+}
+
+pub(super) struct Record {
+    pub(super) text: &'static str,
+    // The passages of its frame, one after the other, until the data is taken. It arrives at least once.
+    pub(super) fates: &'static [Fate],
+    // Whether it arrives once more after that.
+    pub(super) late: bool,
+}
+
+use Fate::{Arrives, Echoed, Lost};
+
+pub(super) const RECORDS: [Record; 5] = [
+    Record {
+        text: "06:00 chlorine 0.42 l",
+        fates: &[Arrives],
+        late: false,
+    },
+    Record {
+        text: "09:30 chlorine 0.35 l",
+        fates: &[Lost, Arrives],
+        late: false,
+    },
+    Record {
+        text: "13:00 acid 0.10 l",
+        fates: &[Arrives, Arrives],
+        late: true,
+    },
+    Record {
+        text: "17:15 chlorine 0.51 l",
+        fates: &[Echoed, Arrives],
+        late: false,
+    },
+    Record {
+        text: "21:00 flocculant 0.04 l",
+        fates: &[Lost, Echoed, Arrives, Arrives],
+        late: false,
+    },
+];

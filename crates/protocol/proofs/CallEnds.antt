@@ -1,0 +1,153 @@
+-- Every call ends as it should.
+use Rattle.std.proofs.Common.{◌≡◌, ℕ, Bool, true, false, cond, not, List, [], length, Some, None, Ok, Err, Result, refl, ap, arith}
+use Rattle.std.proofs.lemmas.Grind.{common_steps}
+use Rattle.frame.specs.declared.types.Service.{Service}
+use Rattle.frame.specs.declared.faults.CodecFault.{CodecFault}
+use Rattle.frame.specs.Frames.{Said, act_req, act_res, vfy_req, vfy_res, enc, tmn, error, Parts}
+use Rattle.frame.specs.Reading.{reading}
+use Rattle.suite.specs.Schemes.{Scheme}
+use Rattle.suite.specs.Calls.{wrong_seed, no_room}
+use Rattle.protocol.specs.declared.states.State.{State}
+use Rattle.protocol.specs.declared.states.State.TheVariants as st
+use Rattle.protocol.specs.declared.outcomes.Outcome.{Outcome}
+use Rattle.protocol.specs.declared.outcomes.Confirmation.{Confirmation}
+use Rattle.protocol.specs.declared.outcomes.Confirmation.TheVariants as conf
+use Rattle.protocol.specs.declared.faults.Cause.{Cause}
+use Rattle.protocol.specs.declared.faults.Cause.TheVariants.{Codec, NotAllowed, OtherService}
+use Rattle.protocol.specs.declared.refusals.Refusal.{Refusal}
+use Rattle.protocol.specs.declared.refusals.Refusal.TheVariants as no
+use Rattle.protocol.specs.declared.faults.Fault.{Fault}
+use Rattle.protocol.specs.declared.faults.MachineFault.{MachineFault}
+use Rattle.protocol.specs.Numbers.{cause_code}
+use Rattle.protocol.specs.Models.{Model}
+use Rattle.protocol.specs.Steps.{Step, said_by, fails, ended_by, same_service, in_session, on_act_req, on_act_res, on_vfy_req, on_vfy_res, on_enc, by_state, heard}
+use Rattle.protocol.specs.Calls.{Call, refused, faulted, settled, error_service, error_payload, invoke, send, retrieve_data, terminate, frame, release, Turn, invoke_turn, send_turn, data_turn, terminate_turn, release_turn, taken, first_byte, admitted, frame_turn, turn}
+use Rattle.protocol.specs.Ends.{Ends, EveryCallEnds}
+
+refused-ends : (m : Model) (r : Refusal) → Ends m (refused m r)
+refused-ends m r = record { refused = λ q e. (refl, refl); length = λ o e. absurd (cc); faulty = λ o f e q. absurd (cc) }
+
+faulted-ends : (m after : Model) (sep : ℕ) (f : MachineFault) → Ends m (faulted after sep f)
+faulted-ends m after sep f = record {
+  refused = λ r e. absurd (cc);
+  length = λ o e. grind (arith, common_steps);
+  faulty = λ o g e q. record {
+    confirmation = confirms o e;
+    idle = refl;
+    cleared = record { seed = refl; number = refl; held = refl; secret = refl; link = refl };
+    reply = (error_service after.service sep f.state, ap (λ x. said_by (error_service after.service sep f.state) (error (error_payload (cause_code x.cause)))) (same o g e q));
+  };
+}
+  where
+    confirms : (o : Outcome) → (faulted after sep f).answer ≡ Ok o → o.confirmation ≡ conf.Error
+    confirms o e = grind (arith, common_steps)
+
+    same : (o : Outcome) (g : Fault) → (faulted after sep f).answer ≡ Ok o → o.fault ≡ Some g → f ≡ g.machine
+    same o g e q = grind (arith, common_steps)
+
+-- a call that meets no fault
+faultless : (m : Model) (t : Turn) → ((r : Refusal) → t.answer ≡ Err r → (t.model ≡ m) × (t.reply ≡ []))
+    → ((o : Outcome) → t.answer ≡ Ok o → (o.length ≡ length t.reply) × (o.fault ≡ None)) → Ends m t
+faultless m t refuses answers = record {
+  refused = refuses;
+  length = λ o e. (answers o e).0;
+  faulty = λ o f e q. absurd (no_fault o f (answers o e).1 q);
+}
+  where
+    no_fault : (o : Outcome) (f : Fault) → o.fault ≡ None → o.fault ≡ Some f → ⊥
+    no_fault o f e q = cc
+
+invoke-ends : (s : Scheme) (m : Model) (service : Service) (pid : ℕ) (seed : List ℕ) (room : ℕ) → Ends m (invoke_turn s m service pid seed room)
+invoke-ends s m service pid seed room = faultless m (invoke_turn s m service pid seed room) (λ r e. grind (arith, common_steps)) (λ o e. grind (arith, common_steps))
+
+send-ends : (s : Scheme) (m : Model) (plain : List ℕ) (room : ℕ) → Ends m (send_turn s m plain room)
+send-ends s m plain room = faultless m (send_turn s m plain room) (λ r e. grind (arith, common_steps)) (λ o e. grind (arith, common_steps))
+
+data-ends : (m : Model) (room : ℕ) → Ends m (data_turn m room)
+data-ends m room = faultless m (data_turn m room) (λ r e. grind (arith, common_steps)) (λ o e. grind (arith, common_steps))
+
+terminate-ends : (m : Model) (room : ℕ) → Ends m (terminate_turn m room)
+terminate-ends m room = faultless m (terminate_turn m room) (λ r e. grind (arith, common_steps)) (λ o e. grind (arith, common_steps))
+
+release-ends : (m : Model) → Ends m (release_turn m)
+release-ends m = faultless m (release_turn m) (λ r e. grind (arith, common_steps)) (λ o e. grind (arith, common_steps))
+
+-- what a message is answered without a fault tells its length
+
+abbrev Tells : Step → Type 0
+Tells step = (o : Outcome) → step.answer ≡ Ok o → (o.length ≡ length step.reply) × (o.fault ≡ None)
+
+act_req-tells : (s : Scheme) (m : Model) (service : Service) (pid : ℕ) (offer seed : List ℕ) → Tells (on_act_req s m service pid offer seed)
+act_req-tells s m service pid offer seed = λ o e. grind (arith, common_steps)
+
+act_res-tells : (s : Scheme) (m : Model) (offer : List ℕ) → Tells (on_act_res s m offer)
+act_res-tells s m offer = λ o e. grind (arith, common_steps)
+
+vfy_req-tells : (s : Scheme) (m : Model) (payload : List ℕ) → Tells (on_vfy_req s m payload)
+vfy_req-tells s m payload = λ o e. grind (arith, common_steps)
+
+vfy_res-tells : (s : Scheme) (m : Model) (payload : List ℕ) → Tells (on_vfy_res s m payload)
+vfy_res-tells s m payload = λ o e. grind (arith, common_steps)
+
+enc-tells : (s : Scheme) (m : Model) (payload : List ℕ) → Tells (on_enc s m payload)
+enc-tells s m payload = λ o e. grind (arith, common_steps)
+
+session-tells : (m : Model) (service : Service) (step : Step) → Tells step → Tells (in_session m service step)
+session-tells m service step h o e = both (not (same_service service m.service)) e
+  where
+    both : (b : Bool) → (cond b (fails m OtherService) step).answer ≡ Ok o → (o.length ≡ length (cond b (fails m OtherService) step).reply) × (o.fault ≡ None)
+    both true q = absurd (cc)
+    both false q = h o q
+
+ended-tells : (m : Model) (confirmation : Confirmation) → Tells (ended_by m confirmation)
+ended-tells m confirmation o e = grind (arith, common_steps)
+
+fails-tells : (m : Model) (cause : Cause) → Tells (fails m cause)
+fails-tells m cause o e = absurd (cc)
+
+state-tells : (s : Scheme) (m : Model) (seed : List ℕ) (service : Service) (state : State) (said : Said) → Tells (by_state s m seed service state said)
+state-tells s m seed service state (error p) = ended-tells m conf.Error
+state-tells s m seed service st.Idle (act_req pid offer) = act_req-tells s m service pid offer seed
+state-tells s m seed service st.Select (act_res offer) = session-tells m service (on_act_res s m offer) (act_res-tells s m offer)
+state-tells s m seed service st.EstablishedSender (vfy_res check) = session-tells m service (on_vfy_res s m check) (vfy_res-tells s m check)
+state-tells s m seed service st.EstablishedRecipient (vfy_req check) = session-tells m service (on_vfy_req s m check) (vfy_req-tells s m check)
+state-tells s m seed service st.ConfirmedSse (tmn p) = session-tells m service (ended_by m conf.Terminated) (ended-tells m conf.Terminated)
+state-tells s m seed service st.ConfirmedSch (tmn p) = session-tells m service (ended_by m conf.Terminated) (ended-tells m conf.Terminated)
+state-tells s m seed service st.ConfirmedSch (enc payload) = session-tells m service (on_enc s m payload) (enc-tells s m payload)
+state-tells s m seed service state said = fails-tells m NotAllowed
+
+heard-tells : (s : Scheme) (m : Model) (seed : List ℕ) (h : Result Parts CodecFault) → Tells (heard s m seed h)
+heard-tells s m seed (Ok p) = state-tells s m seed p.service m.state p.said
+heard-tells s m seed (Err f) = fails-tells m (Codec f)
+
+-- a step, with its fault answered by an ERROR
+settled-ends : (m after : Model) (sep : ℕ) (reply : List ℕ) (answer : Result Outcome MachineFault)
+    → ((o : Outcome) → answer ≡ Ok o → (o.length ≡ length reply) × (o.fault ≡ None)) → Ends m (settled sep after reply answer)
+settled-ends m after sep reply (Ok o) h = faultless m (settled sep after reply (Ok o)) (λ r e. absurd (cc)) (λ p e. same p o (h o refl) e)
+  where
+    same : (p q : Outcome) → (q.length ≡ length reply) × (q.fault ≡ None) → ◌≡◌ {A = Result Outcome Refusal} (Ok q) (Ok p) → (p.length ≡ length reply) × (p.fault ≡ None)
+    same p q k e = (grind (arith, common_steps), grind (arith, common_steps))
+settled-ends m after sep reply (Err f) h = faulted-ends m after sep f
+
+taken-ends : (s : Scheme) (m : Model) (seed : List ℕ) (sep : ℕ) (a : Result (Result Parts CodecFault) Refusal) → Ends m (taken s m seed sep a)
+taken-ends s m seed sep (Ok h) = let step = heard s m seed h in settled-ends m step.model sep step.reply step.answer (heard-tells s m seed h)
+taken-ends s m seed sep (Err r) = refused-ends m r
+
+frame-ends : (s : Scheme) (m : Model) (bytes seed : List ℕ) (room : ℕ) → Ends m (frame_turn s m bytes seed room)
+frame-ends s m bytes seed room = chosen (no_room room) (wrong_seed seed)
+  where
+    chosen : (b d : Bool) → Ends m (cond b (refused m no.ReplyBuffer) (cond d (refused m no.SeedLength) (taken s m seed (first_byte bytes) (admitted m (reading bytes)))))
+    chosen true d = refused-ends m no.ReplyBuffer
+    chosen false true = refused-ends m no.SeedLength
+    chosen false false = taken-ends s m seed (first_byte bytes) (admitted m (reading bytes))
+
+ends : (s : Scheme) (m : Model) (c : Call) → Ends m (turn s m c)
+ends s m (invoke service pid seed room) = invoke-ends s m service pid seed room
+ends s m (send plain room) = send-ends s m plain room
+ends s m (retrieve_data room) = data-ends m room
+ends s m (terminate room) = terminate-ends m room
+ends s m (frame bytes seed room) = frame-ends s m bytes seed room
+ends s m release = release-ends m
+
+pub every_call_ends : (s : Scheme) → EveryCallEnds s
+every_call_ends s m c = ends s m c

@@ -1,0 +1,41 @@
+-- How a call ends, whatever it is given: refused with nothing altered, or answered; with a fault, by an ERROR frame that tells it.
+use Rattle.std.specs.Prelude.{◌≡◌, ℕ, List, [], length, Some, Ok, Err}
+use Rattle.frame.specs.declared.types.Service.{Service}
+use Rattle.frame.specs.Frames.{error}
+use Rattle.suite.specs.Schemes.{Scheme}
+use Rattle.protocol.specs.declared.states.State.TheVariants.{Idle}
+use Rattle.protocol.specs.declared.outcomes.Confirmation.TheVariants as conf
+use Rattle.protocol.specs.declared.outcomes.Outcome.{Outcome}
+use Rattle.protocol.specs.declared.refusals.Refusal.{Refusal}
+use Rattle.protocol.specs.declared.faults.Fault.{Fault}
+use Rattle.protocol.specs.Numbers.{cause_code}
+use Rattle.protocol.specs.Models.{Model, no_seed}
+use Rattle.protocol.specs.Steps.{said_by}
+use Rattle.protocol.specs.Calls.{Call, Turn, error_payload, turn}
+
+-- no key, and nothing of a session, is left
+pub record Cleared (m : Model) : Type 0 where
+  pub seed : m.seed ≡ no_seed
+  pub number : m.number ≡ 0
+  pub held : m.held ≡ []
+  pub secret : m.secret ≡ 0
+  pub link : m.link ≡ 0
+
+-- the reply to a fault: an ERROR of some service, whose payload is the fault's letter, its digit and 00
+abbrev pub TellsFault : Fault → List ℕ → Type 0
+TellsFault f reply = (service : Service) × (reply ≡ said_by service (error (error_payload (cause_code f.machine.cause))))
+
+pub record Faulty (m : Model) (t : Turn) (o : Outcome) (f : Fault) : Type 0 where
+  pub confirmation : o.confirmation ≡ conf.Error
+  pub idle : t.model.state ≡ Idle
+  pub cleared : Cleared t.model
+  pub reply : TellsFault f t.reply
+
+pub record Ends (m : Model) (t : Turn) : Type 0 where
+  pub refused : (r : Refusal) → t.answer ≡ Err r → (t.model ≡ m) × (t.reply ≡ [])
+  pub length : (o : Outcome) → t.answer ≡ Ok o → o.length ≡ length t.reply
+  pub faulty : (o : Outcome) (f : Fault) → t.answer ≡ Ok o → o.fault ≡ Some f → Faulty m t o f
+
+-- whatever an entity is, and whatever it is called with
+abbrev pub EveryCallEnds : Scheme → Type 0
+EveryCallEnds s = (m : Model) (c : Call) → Ends m (turn s m c)
