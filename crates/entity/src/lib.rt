@@ -4,5 +4,7 @@
 mod bytes;
 mod entity;
 mod held;
+mod slip;
 
 pub use entity::Entity;
+pub use slip::Slip;

@@ -21,7 +21,7 @@ use Rattle.protocol.specs.declared.faults.MachineFault.{MachineFault}
 use Rattle.protocol.specs.Numbers.{cause_code}
 use Rattle.protocol.specs.Models.{Model}
 use Rattle.protocol.specs.Steps.{Step, said_by, fails, ended_by, same_service, in_session, on_act_req, on_act_res, on_vfy_req, on_vfy_res, on_enc, by_state, heard}
-use Rattle.protocol.specs.Calls.{Call, refused, faulted, settled, error_service, error_payload, invoke, send, retrieve_data, terminate, frame, release, Turn, invoke_turn, send_turn, data_turn, terminate_turn, release_turn, taken, first_byte, admitted, frame_turn, turn}
+use Rattle.protocol.specs.Calls.{Call, refused, faulted, settled, error_service, error_payload, invoke, send, retrieve_data, retrieve_secret, terminate, frame, release, Turn, invoke_turn, send_turn, data_turn, secret_turn, terminate_turn, release_turn, taken, first_byte, admitted, frame_turn, turn}
 use Rattle.protocol.specs.Ends.{Ends, EveryCallEnds}
 
 refused-ends : (m : Model) (r : Refusal) → Ends m (refused m r)
@@ -65,6 +65,9 @@ send-ends s m plain room = faultless m (send_turn s m plain room) (λ r e. grind
 
 data-ends : (m : Model) (room : ℕ) → Ends m (data_turn m room)
 data-ends m room = faultless m (data_turn m room) (λ r e. grind (arith, common_steps)) (λ o e. grind (arith, common_steps))
+
+secret-ends : (m : Model) (room : ℕ) → Ends m (secret_turn m room)
+secret-ends m room = faultless m (secret_turn m room) (λ r e. grind (arith, common_steps)) (λ o e. grind (arith, common_steps))
 
 terminate-ends : (m : Model) (room : ℕ) → Ends m (terminate_turn m room)
 terminate-ends m room = faultless m (terminate_turn m room) (λ r e. grind (arith, common_steps)) (λ o e. grind (arith, common_steps))
@@ -145,6 +148,7 @@ ends : (s : Scheme) (m : Model) (c : Call) → Ends m (turn s m c)
 ends s m (invoke service pid seed room) = invoke-ends s m service pid seed room
 ends s m (send plain room) = send-ends s m plain room
 ends s m (retrieve_data room) = data-ends m room
+ends s m (retrieve_secret room) = secret-ends m room
 ends s m (terminate room) = terminate-ends m room
 ends s m (frame bytes seed room) = frame-ends s m bytes seed room
 ends s m release = release-ends m

@@ -1,12 +1,13 @@
 ghost use Rattle.std.specs.Prelude.{◌≡◌, length, Ok};
 ghost use Rattle.buffers.specs.Buffers.{over};
-ghost use Rattle.protocol.specs.Calls.{turn, invoke as invocation, send as sends, retrieve_data as retrieves, terminate as terminates, release as releases};
+ghost use Rattle.protocol.specs.Calls.{turn, invoke as invocation, send as sends, retrieve_data as retrieves, retrieve_secret as reveals, terminate as terminates, release as releases};
 ghost use Rattle.entity.specs.Views.{view};
 
 use super::Entity;
 use super::records::is_record_length;
 use crate::bytes::{has_room, put, sixteen, write_front};
 use crate::held::Held;
+use crate::slip::Slip;
 use frame::{Body, Service};
 use protocol::{Confirmation, Outcome, Refusal, State};
 use suite::{Role, Suite};
@@ -85,6 +86,24 @@ impl<S: Suite> Entity<S> {
         let length = write_front(data, out);
         self.held = Held::nothing();
         Ok(Outcome::quiet(Confirmation::Nothing, length, 0))
+    }
+
+    // Hands out the shared secret of a service SSE, to whoever shows a slip.
+    pub fn retrieve_secret(&self, _slip: &Slip, out: &mut [u8]) -> Result<Outcome, Refusal>
+        ensures model { view S.meaning self.now ≡ (turn S.scheme (view S.meaning self.now) (reveals (length out.old))).model }
+        ensures answer { result ≡ (turn S.scheme (view S.meaning self.now) (reveals (length out.old))).answer }
+        ensures secret { out.new ≡ over (turn S.scheme (view S.meaning self.now) (reveals (length out.old))).reply out.old }
+    {
+        if self.state != State::ConfirmedSse {
+            return Err(Refusal::WrongState);
+        }
+        if out.len() < 16 {
+            return Err(Refusal::SmallBuffer);
+        }
+        match self.suite.reveal(self.secret, out) {
+            Ok(length) => Ok(Outcome::quiet(Confirmation::Nothing, length, 0)),
+            Err(_) => Err(Refusal::WrongState),
+        }
     }
 
     // Ends the service: the reply is the TMN to be sent.

@@ -1,0 +1,21 @@
+ghost use Rattle.std.specs.Prelude.{◌≡◌, length, replicate};
+
+// Owed for a secret that is retrieved: whoever takes one out has to hand it in with the buffer, which is then all zeros. It can be
+// neither copied nor let go, and touches neither entity nor suite.
+pub struct Slip {
+    owed: (),
+}
+
+impl Slip {
+    pub fn take_out() -> Slip {
+        Slip { owed: () }
+    }
+
+    // Hands the slip in with the buffer into which the secret was written.
+    pub fn hand_in(self, buffer: &mut [u8])
+        ensures { buffer.new ≡ replicate (length buffer.old) 0 }
+    {
+        let Slip { owed: () } = self;
+        buffer.fill(0);
+    }
+}
