@@ -9,7 +9,7 @@ use Rattle.suite.specs.declared.types.Denial.{Denial}
 use Rattle.suite.specs.declared.types.Denial.TheVariants.{Unfit}
 use Rattle.suite.specs.Meanings.{Bytes16, Key, Meaning, WellFormed, same_kind, value_in}
 use Rattle.suite.specs.Schemes.{Scheme, Lawful, ok_role}
-use Rattle.suite.specs.Calls.{known, no_room, checked, sealed}
+use Rattle.suite.specs.Calls.{known, no_room, checked, revealed, sealed}
 
 same_value : {x y : List ℕ} → ◌≡◌ {A = Option (List ℕ)} (Some x) (Some y) → x ≡ y
 same_value h = cc
@@ -57,3 +57,7 @@ seal_short s m key role number room n plain l w h200 h =
     short_of_key (λ v. s.seal_of m.root key v role number plain) 232 LinkKey key m.live n w.values
     (λ v bytes. let e = l.seal_long m.root v plain key role number w.root bytes ok in let c = l.overhead_bound in omega arith)
     b.1
+
+pub reveal_short : (m : Meaning) (key room n : ℕ) → WellFormed m → Ok n ≡ length_answer (revealed m key room) → n ≤ 16
+reveal_short m key room n w h =
+    short_of_key (λ v. v) 16 SharedSecret key m.live n w.values (λ v bytes. let e = bytes.long in omega arith) (fit (nat_lt room 16) _ n h).1

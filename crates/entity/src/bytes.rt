@@ -42,6 +42,7 @@ pub fn put(service: Service, body: Body<'_>, reply: &mut [u8]) -> usize
     requires short { length (said_by service (says body)) ≤ 255 }
     requires plain { laden (says body) ≡ false }
     ensures answer { result ≡ length (said_by service (says body.entry)) }
+    ensures within { result ≤ 255 }
     ensures buffer { reply.new ≡ over (said_by service (says body.entry)) reply.old }
 {
     write(&Message { service, body }, reply).unwrap()

@@ -45,7 +45,8 @@ impl Held {
     }
 
     pub fn bytes(&self) -> &[u8]
-        ensures { result.now ≡ self.now }
+        ensures bytes { result.now ≡ self.now }
+        ensures short { length result.now ≤ 200 }
     {
         &self.place[..self.filled]
     }

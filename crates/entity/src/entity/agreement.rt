@@ -1,4 +1,4 @@
-ghost use Rattle.std.specs.Prelude.{◌≡◌, ◌≤◌, length, IfErr};
+ghost use Rattle.std.specs.Prelude.{◌≡◌, ◌≤◌, length, IfErr, IfOk};
 ghost use Rattle.buffers.specs.Buffers.{over};
 ghost use Rattle.protocol.specs.Steps.{on_act_req, on_act_res, asking};
 ghost use Rattle.entity.specs.Views.{view};
@@ -25,6 +25,7 @@ impl<S: Suite> Entity<S> {
         ensures answer { result ≡ (on_act_req S.scheme (view S.meaning self.old) service pid offer.now seed.now).answer }
         ensures reply { reply.new ≡ over (on_act_req S.scheme (view S.meaning self.old) service pid offer.now seed.now).reply reply.old }
         ensures untouched { IfErr result (λ f. reply.new ≡ reply.old) }
+        ensures short { IfOk result (λ o. o.length ≤ 255) }
     {
         if pid != S::numbers().pid {
             return Err(self.met(SuiteFault::OtherPid.into()));
@@ -54,6 +55,7 @@ impl<S: Suite> Entity<S> {
         ensures answer { result ≡ (on_act_res S.scheme (view S.meaning self.old) offer.now).answer }
         ensures reply { reply.new ≡ over (on_act_res S.scheme (view S.meaning self.old) offer.now).reply reply.old }
         ensures untouched { IfErr result (λ f. reply.new ≡ reply.old) }
+        ensures short { IfOk result (λ o. o.length ≤ 255) }
     {
         let made = met_in(
             self.state,
@@ -70,6 +72,7 @@ impl<S: Suite> Entity<S> {
         ensures answer { result ≡ (asking S.scheme (view S.meaning self.old) made).answer }
         ensures reply { reply.new ≡ over (asking S.scheme (view S.meaning self.old) made).reply reply.old }
         ensures untouched { IfErr result (λ f. reply.new ≡ reply.old) }
+        ensures short { IfOk result (λ o. o.length ≤ 255) }
     {
         let mut scratch = [0; 255];
         let check = met_in(self.state, self.check_value(Role::Sender, &mut scratch))?;

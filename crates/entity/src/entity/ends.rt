@@ -77,6 +77,7 @@ impl<S: Suite> Entity<S> {
         ensures model { view S.meaning self.new ≡ (faulted (view S.meaning self.old) sep fault.machine).model }
         ensures answer { Ok result ≡ (faulted (view S.meaning self.old) sep fault.machine).answer }
         ensures reply { reply.new ≡ over (faulted (view S.meaning self.old) sep fault.machine).reply reply.old }
+        ensures short { result.length ≤ 255 }
     {
         let code = fault.code();
         let service = error_service(self.service, sep, fault.machine.state);

@@ -1,4 +1,4 @@
-ghost use Rattle.std.specs.Prelude.{◌≡◌, ◌%◌, ◌≤◌, length, Ok, IfErr};
+ghost use Rattle.std.specs.Prelude.{◌≡◌, ◌%◌, ◌≤◌, length, Ok, IfErr, IfOk};
 ghost use Rattle.std.specs.Result.{result_map_both};
 ghost use Rattle.buffers.specs.Buffers.{over};
 ghost use Rattle.frame.specs.Frames.{parts};
@@ -51,6 +51,7 @@ impl<S: Suite> Entity<S> {
         ensures answer { result ≡ result_map_both (λ x. x) (λ f. record { machine = f; message = sep % 16 }) (heard_step S.scheme (view S.meaning self.old) seed.now (heard_parts heard.entry)).answer }
         ensures reply { reply.new ≡ over (heard_step S.scheme (view S.meaning self.old) seed.now (heard_parts heard.entry)).reply reply.old }
         ensures untouched { IfErr result (λ f. reply.new ≡ reply.old) }
+        ensures short { IfOk result (λ o. o.length ≤ 255) }
     {
         Ok(at_message(sep % 16, self.hear(heard, seed, reply))?)
     }
@@ -67,6 +68,7 @@ impl<S: Suite> Entity<S> {
         ensures model { view S.meaning self.new ≡ (settle sep (heard_step S.scheme (view S.meaning self.old) seed.now (heard_parts heard.entry))).model }
         ensures answer { Ok result ≡ (settle sep (heard_step S.scheme (view S.meaning self.old) seed.now (heard_parts heard.entry))).answer }
         ensures reply { reply.new ≡ over (settle sep (heard_step S.scheme (view S.meaning self.old) seed.now (heard_parts heard.entry))).reply reply.old }
+        ensures short { result.length ≤ 255 }
     {
         match self.run(sep, heard, seed, reply) {
             Ok(outcome) => outcome,
@@ -79,6 +81,7 @@ impl<S: Suite> Entity<S> {
         ensures model { view S.meaning self.new ≡ (taken S.scheme (view S.meaning self.old) seed.now (first_byte frame.now) (admitted (view S.meaning self.old) (reading frame.now))).model }
         ensures answer { result ≡ (taken S.scheme (view S.meaning self.old) seed.now (first_byte frame.now) (admitted (view S.meaning self.old) (reading frame.now))).answer }
         ensures reply { reply.new ≡ over (taken S.scheme (view S.meaning self.old) seed.now (first_byte frame.now) (admitted (view S.meaning self.old) (reading frame.now))).reply reply.old }
+        ensures short { IfOk result (λ o. o.length ≤ 255) }
     {
         let [sep, ..] = frame else {
             return Err(Refusal::FrameLength);
@@ -92,6 +95,7 @@ impl<S: Suite> Entity<S> {
         ensures model { view S.meaning self.new ≡ (turn S.scheme (view S.meaning self.old) (frame_call frame.now seed.now (length reply.old))).model }
         ensures answer { result ≡ (turn S.scheme (view S.meaning self.old) (frame_call frame.now seed.now (length reply.old))).answer }
         ensures reply { reply.new ≡ over (turn S.scheme (view S.meaning self.old) (frame_call frame.now seed.now (length reply.old))).reply reply.old }
+        ensures short { IfOk result (λ o. o.length ≤ 255) }
     {
         has_room(reply)?;
         self.take(frame, sixteen(seed)?, reply)

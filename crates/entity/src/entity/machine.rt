@@ -1,4 +1,4 @@
-ghost use Rattle.std.specs.Prelude.{◌≡◌, ◌≤◌, length, IfErr};
+ghost use Rattle.std.specs.Prelude.{◌≡◌, ◌≤◌, length, IfErr, IfOk};
 ghost use Rattle.buffers.specs.Buffers.{over};
 ghost use Rattle.frame.specs.Frames.{said_by as says};
 ghost use Rattle.protocol.specs.Steps.{by_state, heard as heard_step};
@@ -44,6 +44,7 @@ impl<S: Suite> Entity<S> {
         ensures answer { result ≡ (by_state S.scheme (view S.meaning self.old) seed.now message.now.service self.old.state (says message.now.body)).answer }
         ensures reply { reply.new ≡ over (by_state S.scheme (view S.meaning self.old) seed.now message.now.service self.old.state (says message.now.body)).reply reply.old }
         ensures untouched { IfErr result (λ f. reply.new ≡ reply.old) }
+        ensures short { IfOk result (λ o. o.length ≤ 255) }
     {
         match (self.state, message.body) {
             (_, Body::Error(_)) => Ok(self.end(Confirmation::Error, 0, None)),
@@ -86,6 +87,7 @@ impl<S: Suite> Entity<S> {
         ensures answer { result ≡ (heard_step S.scheme (view S.meaning self.old) seed.now (heard_parts heard.entry)).answer }
         ensures reply { reply.new ≡ over (heard_step S.scheme (view S.meaning self.old) seed.now (heard_parts heard.entry)).reply reply.old }
         ensures untouched { IfErr result (λ f. reply.new ≡ reply.old) }
+        ensures short { IfOk result (λ o. o.length ≤ 255) }
     {
         let message = met_in(self.state, heard)?;
         self.step(&message, seed, reply)

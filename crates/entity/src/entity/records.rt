@@ -1,4 +1,4 @@
-ghost use Rattle.std.specs.Prelude.{◌≡◌, [], replicate};
+ghost use Rattle.std.specs.Prelude.{◌≡◌, [], replicate, ◌≤◌, IfOk};
 ghost use Rattle.protocol.specs.Steps.{record_length, sequenced, on_enc};
 ghost use Rattle.entity.specs.Views.{view};
 
@@ -39,6 +39,7 @@ impl<S: Suite> Entity<S> {
     fn enter(&mut self, payload: &[u8], scratch: &mut [u8; 255]) -> Result<Outcome, MachineFault>
         ensures model { view S.meaning self.new ≡ (on_enc S.scheme (view S.meaning self.old) payload.now).model }
         ensures answer { result ≡ (on_enc S.scheme (view S.meaning self.old) payload.now).answer }
+        ensures short { IfOk result (λ o. o.length ≤ 255) }
     {
         let opened = met_in(self.state, self.open(payload, scratch))?;
         if !met_in(self.state, self.is_next(opened))? {
@@ -59,6 +60,7 @@ impl<S: Suite> Entity<S> {
         ensures model { view S.meaning self.new ≡ (on_enc S.scheme (view S.meaning self.old) payload.now).model }
         ensures answer { result ≡ (on_enc S.scheme (view S.meaning self.old) payload.now).answer }
         ensures cleared { scratch.new ≡ replicate 255 0 }
+        ensures short { IfOk result (λ o. o.length ≤ 255) }
     {
         let entered = self.enter(payload, scratch);
         scratch.fill(0);
@@ -70,6 +72,7 @@ impl<S: Suite> Entity<S> {
         ensures model { view S.meaning self.new ≡ (on_enc S.scheme (view S.meaning self.old) payload.now).model }
         ensures answer { result ≡ (on_enc S.scheme (view S.meaning self.old) payload.now).answer }
         ensures silent { (on_enc S.scheme (view S.meaning self.old) payload.now).reply ≡ [] }
+        ensures short { IfOk result (λ o. o.length ≤ 255) }
     {
         self.enter_cleanly(payload, &mut [0; 255])
     }

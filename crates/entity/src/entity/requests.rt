@@ -1,4 +1,4 @@
-ghost use Rattle.std.specs.Prelude.{◌≡◌, length, Ok};
+ghost use Rattle.std.specs.Prelude.{◌≡◌, length, Ok, ◌≤◌, IfOk};
 ghost use Rattle.buffers.specs.Buffers.{over};
 ghost use Rattle.protocol.specs.Calls.{turn, invoke as invocation, send as sends, retrieve_data as retrieves, retrieve_secret as reveals, terminate as terminates, release as releases};
 ghost use Rattle.entity.specs.Views.{view};
@@ -24,6 +24,7 @@ impl<S: Suite> Entity<S> {
         ensures model { view S.meaning self.new ≡ (turn S.scheme (view S.meaning self.old) (invocation service pid seed.now (length reply.old))).model }
         ensures answer { result ≡ (turn S.scheme (view S.meaning self.old) (invocation service pid seed.now (length reply.old))).answer }
         ensures reply { reply.new ≡ over (turn S.scheme (view S.meaning self.old) (invocation service pid seed.now (length reply.old))).reply reply.old }
+        ensures short { IfOk result (λ o. o.length ≤ 255) }
     {
         has_room(reply)?;
         let seed = sixteen(seed)?;
@@ -48,6 +49,7 @@ impl<S: Suite> Entity<S> {
         ensures model { view S.meaning self.new ≡ (turn S.scheme (view S.meaning self.old) (sends plain.now (length reply.old))).model }
         ensures answer { result ≡ (turn S.scheme (view S.meaning self.old) (sends plain.now (length reply.old))).answer }
         ensures reply { reply.new ≡ over (turn S.scheme (view S.meaning self.old) (sends plain.now (length reply.old))).reply reply.old }
+        ensures short { IfOk result (λ o. o.length ≤ 255) }
     {
         has_room(reply)?;
         if self.state != State::ConfirmedSch {
@@ -72,6 +74,7 @@ impl<S: Suite> Entity<S> {
         ensures model { view S.meaning self.new ≡ (turn S.scheme (view S.meaning self.old) (retrieves (length out.old))).model }
         ensures answer { result ≡ (turn S.scheme (view S.meaning self.old) (retrieves (length out.old))).answer }
         ensures data { out.new ≡ over (turn S.scheme (view S.meaning self.old) (retrieves (length out.old))).reply out.old }
+        ensures short { IfOk result (λ o. o.length ≤ 255) }
     {
         if self.state != State::ConfirmedSch {
             return Err(Refusal::WrongState);
@@ -93,6 +96,7 @@ impl<S: Suite> Entity<S> {
         ensures model { view S.meaning self.now ≡ (turn S.scheme (view S.meaning self.now) (reveals (length out.old))).model }
         ensures answer { result ≡ (turn S.scheme (view S.meaning self.now) (reveals (length out.old))).answer }
         ensures secret { out.new ≡ over (turn S.scheme (view S.meaning self.now) (reveals (length out.old))).reply out.old }
+        ensures short { IfOk result (λ o. o.length ≤ 255) }
     {
         if self.state != State::ConfirmedSse {
             return Err(Refusal::WrongState);
@@ -111,6 +115,7 @@ impl<S: Suite> Entity<S> {
         ensures model { view S.meaning self.new ≡ (turn S.scheme (view S.meaning self.old) (terminates (length reply.old))).model }
         ensures answer { result ≡ (turn S.scheme (view S.meaning self.old) (terminates (length reply.old))).answer }
         ensures reply { reply.new ≡ over (turn S.scheme (view S.meaning self.old) (terminates (length reply.old))).reply reply.old }
+        ensures short { IfOk result (λ o. o.length ≤ 255) }
     {
         has_room(reply)?;
         if !matches!(self.state, State::ConfirmedSse | State::ConfirmedSch) {
@@ -124,6 +129,7 @@ impl<S: Suite> Entity<S> {
     pub fn release(&mut self) -> Outcome
         ensures model { view S.meaning self.new ≡ (turn S.scheme (view S.meaning self.old) releases).model }
         ensures answer { Ok result ≡ (turn S.scheme (view S.meaning self.old) releases).answer }
+        ensures short { result.length ≤ 255 }
     {
         let confirmation = match self.state {
             State::Idle => Confirmation::Nothing,

@@ -1,4 +1,4 @@
-ghost use Rattle.std.specs.Prelude.{◌≡◌, ◌≤◌, length, IfErr};
+ghost use Rattle.std.specs.Prelude.{◌≡◌, ◌≤◌, length, IfErr, IfOk};
 ghost use Rattle.std.specs.Str.{bytes_eq};
 ghost use Rattle.buffers.specs.Buffers.{over};
 ghost use Rattle.protocol.specs.Steps.{verified, confirmed, on_vfy_req, on_vfy_res};
@@ -55,6 +55,7 @@ impl<S: Suite> Entity<S> {
         ensures answer { result ≡ (on_vfy_req S.scheme (view S.meaning self.old) payload.now).answer }
         ensures reply { reply.new ≡ over (on_vfy_req S.scheme (view S.meaning self.old) payload.now).reply reply.old }
         ensures untouched { IfErr result (λ f. reply.new ≡ reply.old) }
+        ensures short { IfOk result (λ o. o.length ≤ 255) }
     {
         let state = self.state;
         met_in(state, self.verify(Role::Sender, payload))?;
@@ -69,6 +70,7 @@ impl<S: Suite> Entity<S> {
     pub(super) fn on_vfy_res(&mut self, payload: &[u8]) -> Result<Outcome, MachineFault>
         ensures model { view S.meaning self.new ≡ (on_vfy_res S.scheme (view S.meaning self.old) payload.now).model }
         ensures answer { result ≡ (on_vfy_res S.scheme (view S.meaning self.old) payload.now).answer }
+        ensures short { IfOk result (λ o. o.length ≤ 255) }
     {
         let state = self.state;
         met_in(state, self.verify(Role::Recipient, payload))?;
