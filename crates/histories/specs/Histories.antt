@@ -1,5 +1,5 @@
 -- What a history of calls tells: keys reported, link sessions, records.
-use Rattle.std.specs.Prelude.{◌≡◌, ℕ, ◌<◌, Bool, true, false, cond, not, ◌&&◌, ◌||◌, List, [], ◌∷◌, ◌++◌, map, Ok, Err, Result, ◌==◌}
+use Rattle.std.specs.Prelude.{◌≡◌, ℕ, ◌<◌, Bool, true, false, cond, ◌||◌, List, [], ◌∷◌, ◌++◌, Ok, Err, Result, ◌==◌}
 use Rattle.suite.specs.Meanings.{Bytes, WellFormed}
 use Rattle.suite.specs.Schemes.{Scheme}
 use Rattle.protocol.specs.declared.states.State.TheVariants.{Idle}
