@@ -4,3 +4,7 @@ pub mod Forms
 pub mod Orders
 pub mod Ledgers
 pub mod Duos
+pub mod Payloads
+pub mod Sounds
+pub mod Turns
+pub mod Messages
