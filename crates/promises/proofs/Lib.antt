@@ -8,3 +8,4 @@ pub mod Payloads
 pub mod Sounds
 pub mod Turns
 pub mod Messages
+pub mod Requests
