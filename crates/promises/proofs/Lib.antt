@@ -9,3 +9,7 @@ pub mod Sounds
 pub mod Turns
 pub mod Messages
 pub mod Requests
+pub mod Runs
+pub mod Services
+pub mod Keeping
+pub mod Pairs
