@@ -1,5 +1,5 @@
 -- Every run keeps account of its keys, its link sessions and its suite.
-use Rattle.std.proofs.Common.{◌≡◌, ℕ, ◌≤◌, Bool, true, false, eqb, ◌⊎◌, List, [], ◌∷◌, sym, refl, ap, inl, inr}
+use Rattle.std.proofs.Common.{◌≡◌, ◌≤◌, true, false, eqb, List, [], ◌∷◌, sym, refl, ap, inl, inr}
 use Rattle.std.proofs.lemmas.Bool.{cases_Bool}
 use Rattle.std.specs.List.{AllByRecursion}
 use Rattle.suite.specs.Schemes.{Scheme, Lawful}
@@ -15,7 +15,7 @@ use Rattle.promises.proofs.Books.{within_less}
 use Rattle.promises.proofs.Sounds.{Sound, at_idle, at_select, at_secret, at_sch, has_link}
 use Rattle.promises.proofs.Turns.{not_idle, not_linked}
 use Rattle.promises.proofs.Runs.{Holds, holds}
-use Rattle.promises.proofs.Services.{suite_serves}
+use Rattle.promises.proofs.Askings.{asks_well}
 
 -- only in Confirmed_SCH is data handed out
 handed_at : (s : Scheme) (m : Model) (c : Call) → handing (entered c (turn s m c)) ≡ true → has_link m ≡ true
@@ -76,7 +76,7 @@ kept s law {m} H g = record {
     last = number_below s H.sound;
     handed = g;
   };
-  suite = suite_serves s law H.sound;
+  suite = asks_well s law H.sound;
 }
 
 pub every_run : EveryRun

@@ -10,6 +10,6 @@ pub mod Turns
 pub mod Messages
 pub mod Requests
 pub mod Runs
-pub mod Services
+pub mod Askings
 pub mod Keeping
 pub mod Pairs

@@ -1,11 +1,10 @@
 -- What a frame does in each state is one of the things that a call may do.
-use Rattle.std.proofs.Common.{◌≡◌, ℕ, ◌+◌, ◌*◌, ◌<◌, ◌≤◌, Bool, true, false, cond, not, ◌&&◌, ◌||◌, eqb, ltb, List, [], ◌∷◌, length, Some, None, Ok, Err, Option, Result, sym, refl, ap, ◌∙◌, subst, arith}
+use Rattle.std.proofs.Common.{◌≡◌, ℕ, ◌+◌, ◌*◌, ◌≤◌, Bool, true, false, not, ◌&&◌, ◌||◌, eqb, ltb, List, [], ◌∷◌, length, Some, None, Ok, Err, Option, Result, sym, refl, ap, ◌∙◌, subst, arith}
 use Rattle.std.proofs.lemmas.Bool.{ne_eqb, eq-eqb, ltb-false, eqb-true, or_parts, and_parts, not-false, not-true}
 use Rattle.frame.specs.declared.types.Service.{Service}
 use Rattle.frame.specs.declared.types.Service.TheVariants.{Sse, Sch}
-use Rattle.frame.specs.declared.faults.FaultCode.{FaultCode}
 use Rattle.frame.specs.Numbers.{service_code}
-use Rattle.frame.specs.Frames.{Said, act_req, act_res, vfy_req, vfy_res, enc, tmn, error, Parts}
+use Rattle.frame.specs.Frames.{Said, act_req, act_res, vfy_req, vfy_res, enc, tmn, error}
 use Rattle.frame.specs.Reading.{Reading, message, refused as unread, fault, reading}
 use Rattle.suite.specs.declared.types.Role.{Role}
 use Rattle.suite.specs.declared.types.Role.TheVariants.{Sender, Recipient}
@@ -22,10 +21,9 @@ use Rattle.protocol.specs.declared.refusals.Refusal.TheVariants as no
 use Rattle.protocol.specs.declared.faults.SuiteFault.{SuiteFault}
 use Rattle.protocol.specs.declared.faults.Cause.{Cause}
 use Rattle.protocol.specs.declared.faults.Cause.TheVariants.{Suite}
-use Rattle.protocol.specs.declared.faults.MachineFault.{MachineFault}
 use Rattle.protocol.specs.Models.{Model}
-use Rattle.protocol.specs.Steps.{Step, fails, unless, moved, agree_fault, faulty, agreement, link_value, verified, good, opened_record, is_empty, record_length, sequenced, same_service, in_session, on_act_req, on_act_res, on_vfy_req, on_vfy_res, on_enc, entered, linked, confirmed, check_value, by_state, heard, said_by}
-use Rattle.protocol.specs.Calls.{Call, frame, settle, faulted, blocked, admitted, taken}
+use Rattle.protocol.specs.Steps.{Step, fails, unless, moved, agree_fault, faulty, agreement, link_value, verified, good, opened_record, is_empty, record_length, sequenced, same_service, in_session, on_act_req, on_act_res, on_vfy_req, on_vfy_res, on_enc, entered, linked, confirmed, check_value, by_state, said_by}
+use Rattle.protocol.specs.Calls.{Call, frame, settle, blocked, admitted, taken}
 use Rattle.histories.specs.Histories.{listed}
 use Rattle.histories.specs.Sessions.{In, CopyIn, copy_of}
 use Rattle.promises.proofs.Cases.{both, clash}

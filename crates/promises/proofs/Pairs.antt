@@ -1,5 +1,5 @@
 -- Two link sessions with equal link keys hand out in order.
-use Rattle.std.proofs.Common.{◌≡◌, ℕ, ◌+◌, Bool, true, false, cond, not, ltb, leb, List, [], ◌∷◌, ◌++◌, length, Some, Ok, Err, Result, sym, refl, ap, ◌∙◌, subst, append-nil}
+use Rattle.std.proofs.Common.{◌≡◌, ℕ, ◌+◌, Bool, true, false, cond, not, ltb, leb, List, [], ◌∷◌, ◌++◌, length, Ok, Err, Result, sym, refl, ap, ◌∙◌, subst, append-nil}
 use Rattle.suite.specs.declared.types.KeyKind.TheVariants.{LinkKey}
 use Rattle.suite.specs.declared.types.Denial.{Denial}
 use Rattle.suite.specs.Numbers.{role_byte}
@@ -18,7 +18,7 @@ use Rattle.promises.proofs.Ledgers.{End, Ledger}
 use Rattle.promises.proofs.Duos.{in_order, no_gap}
 use Rattle.promises.proofs.Sounds.{has_link, end_of}
 use Rattle.promises.proofs.Runs.{holds}
-use Rattle.promises.proofs.Services.{role_ok, suite_serves}
+use Rattle.promises.proofs.Askings.{role_ok, asks_well}
 
 -- an end and its ledger, from the run that leads to it
 record Ended (s : Scheme) (value root : List ℕ) (serial : ℕ) (since : History) : Type 0 where
@@ -35,7 +35,7 @@ ended s law value since x =
     let m = after s x.start x.calls in
     let H = holds s law x.start x.fresh x.calls x.bytes in
     let fits = H.all x.serial since x.runs in
-    let formed = (suite_serves s law H.sound).formed in
+    let formed = (asks_well s law H.sound).formed in
     let told : Ledger s value (end_of m) since m.number m.held = fits.ledger value (sym (ap (λ z. value_in m.means.live LinkKey z) fits.key) ∙ x.key) in
     record {
       number = m.number;

@@ -1,5 +1,5 @@
 -- Every call does one of the things that a call may do.
-use Rattle.std.proofs.Common.{◌≡◌, ℕ, ◌+◌, ◌<◌, ◌≤◌, Bool, true, false, cond, not, ◌&&◌, ◌||◌, eqb, ltb, leb, List, [], ◌∷◌, length, Some, None, Ok, Err, Option, Result, refl, ap, arith}
+use Rattle.std.proofs.Common.{◌≡◌, ℕ, ◌+◌, ◌<◌, ◌≤◌, true, false, not, ◌||◌, eqb, ltb, leb, List, [], ◌∷◌, length, Ok, Err, Result, refl, ap, arith}
 use Rattle.std.proofs.lemmas.Bool.{ne_eqb, ltb-false, leb-false, eqb-true, and_parts, not-false, not-true}
 use Rattle.frame.specs.declared.types.Service.{Service}
 use Rattle.frame.specs.Reading.{reading}
@@ -14,7 +14,7 @@ use Rattle.protocol.specs.declared.outcomes.Confirmation.TheVariants as conf
 use Rattle.protocol.specs.Numbers.{state_mark, confirmation_number}
 use Rattle.protocol.specs.Models.{Model}
 use Rattle.protocol.specs.Steps.{is_empty, record_length}
-use Rattle.protocol.specs.Calls.{Turn, Call, invoke, send, retrieve_data, retrieve_secret, terminate, frame, release, turn, done, in_state, sending, revealing, first_byte}
+use Rattle.protocol.specs.Calls.{Call, invoke, send, retrieve_data, retrieve_secret, terminate, frame, release, turn, done, in_state, sending, revealing, first_byte}
 use Rattle.histories.specs.Histories.{GivenBytes}
 use Rattle.promises.proofs.Cases.{both, clash}
 use Rattle.promises.proofs.Ledgers.{sends, gives}

@@ -1,5 +1,5 @@
 -- What holds after every list of calls.
-use Rattle.std.proofs.Common.{◌≡◌, ℕ, ◌+◌, ◌<◌, Bool, true, false, cond, List, [], ◌∷◌, ◌++◌, length, Some, Result, sym, refl, ap, ◌∙◌, subst, arith, length-append}
+use Rattle.std.proofs.Common.{◌≡◌, ℕ, ◌+◌, ◌<◌, true, false, List, [], ◌∷◌, ◌++◌, length, Some, sym, refl, ap, ◌∙◌, subst, arith, length-append}
 use Rattle.std.specs.List.{AllByRecursion}
 use Rattle.suite.specs.declared.types.KeyKind.TheVariants.{LinkKey}
 use Rattle.suite.specs.Meanings.{value_in}
@@ -37,45 +37,45 @@ counted : (f a b m m' : ℕ) (xs ys us vs : List (List ℕ)) → length ys ≡ a
 counted f a b m m' xs ys us vs q t e e' = simp length-append (omega arith)
 
 module _ (s : Scheme) (c : Call) {m : Model} {h : History} (H : Holds s m h) (t : Turn) where
-  abbrev e : Entry
-  e = entered c t
+  abbrev now : Entry
+  now = entered c t
 
   none_ran : has_link m ≡ false → {X : Type 0} → (n : ℕ) (since : History) → Runs n h since → X
   none_ran o n since r = clash (has_link m) o (H.all n since r).linked
 
   -- where no session ran and none starts, none runs
-  fits_none : has_link m ≡ false → started_by t.answer ≡ 0 → (n : ℕ) (since : History) → Runs n (e ∷ h) since → Fits s t.model n since
+  fits_none : has_link m ≡ false → started_by t.answer ≡ 0 → (n : ℕ) (since : History) → Runs n (now ∷ h) since → Fits s t.model n since
   fits_none o z n since (starts pos q) = zero_start n _ pos q z
   fits_none o z n since (goes_on r k) = none_ran o n _ r
 
   -- a session goes on by one act
   ledger_inside : {since : History} → t.model.means ≡ m.means → t.model.link ≡ m.link → end_of t.model ≡ end_of m
-      → ((w : List ℕ) → value_in m.means.live LinkKey m.link ≡ Some w → Act s w (end_of m) e m.number m.held t.model.number t.model.held)
+      → ((w : List ℕ) → value_in m.means.live LinkKey m.link ≡ Some w → Act s w (end_of m) now m.number m.held t.model.number t.model.held)
       → ((w : List ℕ) → value_in m.means.live LinkKey m.link ≡ Some w → Ledger s w (end_of m) since m.number m.held)
-      → (w : List ℕ) → value_in t.model.means.live LinkKey t.model.link ≡ Some w → Ledger s w (end_of t.model) (e ∷ since) t.model.number t.model.held
+      → (w : List ℕ) → value_in t.model.means.live LinkKey t.model.link ≡ Some w → Ledger s w (end_of t.model) (now ∷ since) t.model.number t.model.held
   ledger_inside {since} em el ee act was w q =
       let q' : value_in m.means.live LinkKey m.link ≡ Some w = sym (ap (λ z. value_in z.live LinkKey t.model.link) em ∙ ap (λ z. value_in m.means.live LinkKey z) el) ∙ q in
-      let new : Ledger s w (end_of m) (e ∷ since) t.model.number t.model.held = more (was w q') (act w q') in
-      subst (λ (z : End). Ledger s w z (e ∷ since) t.model.number t.model.held) (sym ee) new
+      let new : Ledger s w (end_of m) (now ∷ since) t.model.number t.model.held = more (was w q') (act w q') in
+      subst (λ (z : End). Ledger s w z (now ∷ since) t.model.number t.model.held) (sym ee) new
 
-  fits_inside : has_link t.model ≡ true → t.model.means ≡ m.means → t.model.link ≡ m.link → end_of t.model ≡ end_of m → started_by t.answer ≡ 0 → t.model.number ≡ (m.number + length (sent_in e)) + length (taken_in e)
-      → ((w : List ℕ) → value_in m.means.live LinkKey m.link ≡ Some w → Act s w (end_of m) e m.number m.held t.model.number t.model.held)
-      → (n : ℕ) (since : History) → Runs n (e ∷ h) since → Fits s t.model n since
+  fits_inside : has_link t.model ≡ true → t.model.means ≡ m.means → t.model.link ≡ m.link → end_of t.model ≡ end_of m → started_by t.answer ≡ 0 → t.model.number ≡ (m.number + length (sent_in now)) + length (taken_in now)
+      → ((w : List ℕ) → value_in m.means.live LinkKey m.link ≡ Some w → Act s w (end_of m) now m.number m.held t.model.number t.model.held)
+      → (n : ℕ) (since : History) → Runs n (now ∷ h) since → Fits s t.model n since
   fits_inside a em el ee z num act n since (starts pos q) = zero_start n _ pos q z
   fits_inside a em el ee z num act n since (goes_on {since = before} r k) =
       let was = H.all n before r in
       record {
         linked = a;
         key = was.key ∙ sym el;
-        number = counted s.first (length (sent_in e)) (length (taken_in e)) m.number t.model.number (sent before) (sent_in e) (taken before) (taken_in e) refl refl was.number num;
+        number = counted s.first (length (sent_in now)) (length (taken_in now)) m.number t.model.number (sent before) (sent_in now) (taken before) (taken_in now) refl refl was.number num;
         ledger = ledger_inside em el ee act was.ledger;
       }
 
-  some_inside : destroyed_in t.answer ≡ [] → Running h → Running (e ∷ h)
-  some_inside d (n, (since, r)) = (n, (e ∷ since, goes_on r (ap (member n) d)))
+  some_inside : destroyed_in t.answer ≡ [] → Running h → Running (now ∷ h)
+  some_inside d (n, (since, r)) = (n, (now ∷ since, goes_on r (ap (member n) d)))
 
   -- a session starts
-  fits_link : has_link m ≡ false → has_link t.model ≡ true → started_by t.answer ≡ m.means.newest + 1 → t.model.link ≡ m.means.newest + 1 → t.model.number ≡ s.first → t.model.held ≡ [] → (n : ℕ) (since : History) → Runs n (e ∷ h) since → Fits s t.model n since
+  fits_link : has_link m ≡ false → has_link t.model ≡ true → started_by t.answer ≡ m.means.newest + 1 → t.model.link ≡ m.means.newest + 1 → t.model.number ≡ s.first → t.model.held ≡ [] → (n : ℕ) (since : History) → Runs n (now ∷ h) since → Fits s t.model n since
   fits_link o a z l num nh n since (starts pos q) = record {
     linked = a;
     key = sym q ∙ z ∙ sym l;
@@ -85,7 +85,7 @@ module _ (s : Scheme) (c : Call) {m : Model} {h : History} (H : Holds s m h) (t 
   fits_link o a z l num nh n since (goes_on r k) = none_ran o n _ r
 
   -- the session that ran is over
-  fits_ends : started_by t.answer ≡ 0 → (has_link m ≡ true → member m.link (destroyed_in t.answer) ≡ true) → (n : ℕ) (since : History) → Runs n (e ∷ h) since → Fits s t.model n since
+  fits_ends : started_by t.answer ≡ 0 → (has_link m ≡ true → member m.link (destroyed_in t.answer) ≡ true) → (n : ℕ) (since : History) → Runs n (now ∷ h) since → Fits s t.model n since
   fits_ends z d n since (starts pos q) = zero_start n _ pos q z
   fits_ends z d n since (goes_on {since = before} r k) =
       let was = H.all n before r in
@@ -111,7 +111,7 @@ module _ (s : Scheme) (c : Call) {m : Model} {h : History} (H : Holds s m h) (t 
   books_ended : t.model.means.newest ≡ m.means.newest → serials t.model.means ≡ [] → made_in t.answer ≡ [] → Clears (serials m.means) (destroyed_in t.answer) → NextBooks
   books_ended new live k cl = rw (new, live, k) (books_cleared _ _ _ cl H.books)
 
-  held_on : Did s c m t → Holds s t.model (e ∷ h)
+  held_on : Did s c m t → Holds s t.model (now ∷ h)
   held_on (outside S em o o' q) = record { sound = S; books = books_silent em q; all = fits_none o q.begins; some = λ x. clash _ o' x }
   held_on (inside S em i i' el ee q num act) = record { sound = S; books = books_silent em q; all = fits_inside i' em el ee q.begins num act; some = λ x. some_inside q.destroys (H.some i) }
   held_on (agrees S o o' q z) = record { sound = S; books = books_next q; all = fits_none o z; some = λ x. clash _ o' x }

@@ -1,5 +1,5 @@
 -- What an entity may be between two calls, and what one call may do.
-use Rattle.std.proofs.Common.{◌≡◌, ℕ, ◌+◌, ◌<◌, ◌≤◌, Bool, true, false, eqb, List, [], ◌∷◌, ◌++◌, length, Some, Result}
+use Rattle.std.proofs.Common.{◌≡◌, ℕ, ◌+◌, ◌≤◌, Bool, true, false, List, [], ◌∷◌, ◌++◌, length, Some, Result}
 use Rattle.frame.specs.declared.types.Service.{Service}
 use Rattle.frame.specs.declared.types.Service.TheVariants.{Sch}
 use Rattle.suite.specs.declared.types.Role.{Role}

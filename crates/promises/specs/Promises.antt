@@ -18,12 +18,14 @@ use Rattle.histories.specs.Sessions.{encs, numbers, OnlyCopies, Part, Begins, Li
 
 -- Keys.
 
+-- the serials of the live keys, the oldest first
 abbrev pub serials : Meaning → List ℕ
 serials m = map (λ k. k.serial) m.live
 
 -- the keys live in the suite are exactly those reported made and not reported destroyed
 pub record KeysAccounted (m : Model) (h : History) : Type 0 where
   pub live : serials m.means ≡ less (made h) (destroyed h)
+  -- no serial is reported made twice, or destroyed twice, or destroyed and never made
   pub made_once : Distinct (made h)
   pub destroyed_once : Distinct (destroyed h)
   pub destroyed_made : less (destroyed h) (made h) ≡ []
@@ -36,32 +38,34 @@ abbrev pub HandedInSession : History → Type 0
 HandedInSession [] = Unit {0}
 HandedInSession (e ∷ h) = (handing e ≡ true → Running h) × HandedInSession h
 
--- the state is Confirmed_SCH exactly while a link session runs; there the number is the first and one for each record of the session
+-- the state is Confirmed_SCH exactly while a link session runs
 pub record SessionsKept (s : Scheme) (m : Model) (h : History) : Type 0 where
   pub runs : m.state ≡ ConfirmedSch → Running h
   pub confirmed : (n : ℕ) (since : History) → Runs n h since → m.state ≡ ConfirmedSch
+  -- there the number is the first, and one more for each record sent or taken in since the start; it never passes the last
   pub number : (n : ℕ) (since : History) → Runs n h since → m.number ≡ s.first + length (sent since) + length (taken since)
   pub last : m.state ≡ ConfirmedSch → m.number ≤ s.final
   pub handed : HandedInSession h
 
 -- What the suite is asked.
 
--- an answer that is not a denial as unfit or unknown
-pub record Granted {A : Type 0} (answer : Result A Denial) : Type 0 where
+-- an answer that is no denial as unfit or unknown
+pub record WellAsked {A : Type 0} (answer : Result A Denial) : Type 0 where
   pub fit : answer ≢ Err Unfit
   pub known : answer ≢ Err Unknown
 
--- this key has check values, gives link keys, and can be revealed
+-- a key that can be asked for check values, for a link key and for its value
 pub record ServesAsSecret (s : Scheme) (means : Meaning) (key : ℕ) : Type 0 where
-  pub check : (role : Role) (room : ℕ) → 255 ≤ room → Granted (checked s means key (role_byte role) room)
-  pub link : Granted (derived s means key)
-  pub value : (room : ℕ) → 16 ≤ room → Granted (revealed means key room)
+  pub check : (role : Role) (room : ℕ) → 255 ≤ room → WellAsked (checked s means key (role_byte role) room)
+  pub link : WellAsked (derived s means key)
+  pub value : (room : ℕ) → 16 ≤ room → WellAsked (revealed means key room)
 
--- this key seals up to 200 bytes under any number up to the last, and opens any payload that a frame has room for
+-- a key that can be asked to seal up to 200 bytes under any number up to the last, and to open any payload that a frame has room for
 pub record ServesAsLink (s : Scheme) (means : Meaning) (key : ℕ) : Type 0 where
-  pub seal : (role : Role) (n : ℕ) (plain : List ℕ) (room : ℕ) → length plain ≤ 200 → n ≤ s.final → 255 ≤ room → Granted (sealed s means key (role_byte role) n plain room)
-  pub unseal : (payload : List ℕ) (room : ℕ) → length payload ≤ 254 → 255 ≤ room → Granted (opened s means key payload room)
+  pub seal : (role : Role) (n : ℕ) (plain : List ℕ) (room : ℕ) → length plain ≤ 200 → n ≤ s.final → 255 ≤ room → WellAsked (sealed s means key (role_byte role) n plain room)
+  pub unseal : (payload : List ℕ) (room : ℕ) → length payload ≤ 254 → 255 ≤ room → WellAsked (opened s means key payload room)
 
+-- the states from the agreement on
 abbrev pub has_secret : State → Bool
 has_secret Idle = false
 has_secret Select = false
@@ -70,29 +74,30 @@ has_secret EstablishedRecipient = true
 has_secret ConfirmedSse = true
 has_secret ConfirmedSch = true
 
--- whatever an entity asks of its suite in its state is granted
-pub record SuiteServes (s : Scheme) (m : Model) : Type 0 where
+-- whatever a call asks of the suite in the state that the entity is in, it is not denied as unfit or unknown
+pub record AsksWell (s : Scheme) (m : Model) : Type 0 where
   pub formed : WellFormed m.means
-  -- an offer, an agreement, and what is asked of the secret in the call that agrees
-  pub offer : (seed : List ℕ) (room : ℕ) → length seed ≡ 16 → 255 ≤ room → Granted (offered s m.means seed room)
-  pub agreement : (seed offer : List ℕ) (role : Role) → length seed ≡ 16 → Granted (agreed s m.means seed offer (role_byte role))
+  -- an offer and an agreement, with the seed that the call brings or the one kept in Select; then, in the same call, the new secret
+  pub offer : (seed : List ℕ) (room : ℕ) → length seed ≡ 16 → 255 ≤ room → WellAsked (offered s m.means seed room)
+  pub agreement : (seed offer : List ℕ) (role : Role) → length seed ≡ 16 → WellAsked (agreed s m.means seed offer (role_byte role))
   pub kept_seed : m.state ≡ Select → length m.seed ≡ 16
   pub new_secret : has_secret m.state ≡ false → (value : List ℕ) → ServesAsSecret s (adding m.means SharedSecret value) (m.means.newest + 1)
-  -- its own keys
+  -- the entity's own keys
   pub secret : has_secret m.state ≡ true → ServesAsSecret s m.means m.secret
   pub link : m.state ≡ ConfirmedSch → ServesAsLink s m.means m.link
-  -- the keys that go where Idle is entered, the link key first
-  pub link_goes : m.link ≢ 0 → Granted (destroy_answer m.means m.link)
-  pub secret_goes : m.secret ≢ 0 → Granted (destroy_answer (without_key m.means m.link) m.secret)
+  -- the keys that go where Idle is entered, the link key first; 0 is none
+  pub link_goes : m.link ≢ 0 → WellAsked (destroy_answer m.means m.link)
+  pub secret_goes : m.secret ≢ 0 → WellAsked (destroy_answer (without_key m.means m.link) m.secret)
 
 -- The promises.
 
+-- what holds of an entity after a history
 pub record Kept (s : Scheme) (m : Model) (h : History) : Type 0 where
   pub keys : KeysAccounted m h
   pub sessions : SessionsKept s m h
-  pub suite : SuiteServes s m
+  pub suite : AsksWell s m
 
--- for every kind of suite, every fresh entity and every list of calls
+-- for every kind of suite, every fresh entity and every list of calls: so it holds of the entity that any call of a run is made to
 abbrev pub EveryRun : Type 0
 EveryRun = (s : Scheme) → Lawful s → (m : Model) → Fresh m → (calls : List Call) → AllByRecursion GivenBytes calls → Kept s (after s m calls) (history s m calls)
 
