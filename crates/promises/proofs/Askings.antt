@@ -54,22 +54,22 @@ role_fits r = not_from_true (ok_role (role_byte r)) (role_ok r)
 
 -- The suite's calls.
 
-pub offer_asked : (s : Scheme) (m : Meaning) (seed : List ℕ) (room : ℕ) → length seed ≡ 16 → 255 ≤ room → WellAsked (offered s m seed room)
+offer_asked : (s : Scheme) (m : Meaning) (seed : List ℕ) (room : ℕ) → length seed ≡ 16 → 255 ≤ room → WellAsked (offered s m seed room)
 offer_asked s m seed room e h = past (wrong_seed seed || no_room room) _ (or_from (wrong_seed seed) (no_room room) (seed_fits seed e) (room_enough room h)) (answered _)
 
-pub agreement_asked : (s : Scheme) (m : Meaning) (seed offer : List ℕ) (role : Role) → length seed ≡ 16 → WellAsked (agreed s m seed offer (role_byte role))
+agreement_asked : (s : Scheme) (m : Meaning) (seed offer : List ℕ) (role : Role) → length seed ≡ 16 → WellAsked (agreed s m seed offer (role_byte role))
 agreement_asked s m seed offer role e =
     past (wrong_seed seed || not (ok_role (role_byte role))) _ (or_from (wrong_seed seed) (not (ok_role (role_byte role))) (seed_fits seed e) (role_fits role))
     (both (not (s.fit_of m.root offer)) WellAsked (λ _. bad_offer) (λ _. both (spent m) WellAsked (λ _. is_spent) (λ _. answered _)))
 
-pub secret_serves : (s : Scheme) (m : Meaning) (key : ℕ) (v : List ℕ) → value_in m.live SharedSecret key ≡ Some v → ServesAsSecret s m key
+secret_serves : (s : Scheme) (m : Meaning) (key : ℕ) (v : List ℕ) → value_in m.live SharedSecret key ≡ Some v → ServesAsSecret s m key
 secret_serves s m key v e = record {
   check = λ role room h. past (not (ok_role (role_byte role)) || no_room room) _ (or_from (not (ok_role (role_byte role))) (no_room room) (role_fits role) (room_enough room h)) (with_value _ _ v e (answered _));
   link = with_value _ _ v e (both (spent m) WellAsked (λ _. is_spent) (λ _. answered _));
   value = λ room h. past (ltb room 16) _ (le-ltb room 16 h) (with_value _ _ v e (answered _));
 }
 
-pub link_serves : (s : Scheme) → Lawful s → (m : Meaning) (key : ℕ) (w : List ℕ) → value_in m.live LinkKey key ≡ Some w → ServesAsLink s m key
+link_serves : (s : Scheme) → Lawful s → (m : Meaning) (key : ℕ) (w : List ℕ) → value_in m.live LinkKey key ≡ Some w → ServesAsLink s m key
 link_serves s law m key w e = record {
   seal = λ role n plain room long top h.
       let final = law.final_bound in
@@ -80,7 +80,7 @@ link_serves s law m key w e = record {
   unseal = λ payload room short h. past (ltb 254 (length payload) || no_room room) _ (or_from (ltb 254 (length payload)) (no_room room) (le-ltb 254 (length payload) short) (room_enough room h)) (with_value _ _ w e (answered _));
 }
 
-pub destroy_asked : (m : Meaning) (key : ℕ) → is_live m.live key ≡ true → WellAsked (destroy_answer m key)
+destroy_asked : (m : Meaning) (key : ℕ) → is_live m.live key ≡ true → WellAsked (destroy_answer m key)
 destroy_asked m key e = both (is_live m.live key) WellAsked (λ _. answered _) (λ f. clash (is_live m.live key) f e)
 
 -- An entity over its suite.

@@ -1,19 +1,18 @@
 -- Serials made, destroyed and live.
 use Rattle.std.proofs.Common.{◌≡◌, ℕ, ◌+◌, ◌<◌, ◌≤◌, Bool, true, false, cond, ◌||◌, eqb, List, [], ◌∷◌, ◌++◌, sym, refl, ap, ◌∙◌, subst, inl, inr, append_assoc, append-nil, arith}
-use Rattle.std.proofs.lemmas.Bool.{ne_eqb, eq-eqb, eqb-true, eqb-false, cases_Bool, or_parts, or_from, or_right, or_left, cond-true, cond-false}
+use Rattle.std.proofs.lemmas.Bool.{ne_eqb, eq-eqb, eqb-true, eqb-false, cases_Bool, or_parts, or_cases, or_from, or_right, or_left, cond-true, cond-false}
 use Rattle.histories.specs.Histories.{member, less, Distinct}
+use Rattle.promises.proofs.Cases.{both}
 
+-- no number is above n
 abbrev pub UpTo : ℕ → List ℕ → Type 0
 UpTo n [] = Unit {0}
 UpTo n (x ∷ xs) = (x ≤ n) × UpTo n xs
 
+-- every number of the first list stands in the second
 abbrev pub Within : List ℕ → List ℕ → Type 0
 Within [] ys = Unit {0}
 Within (x ∷ xs) ys = (member x ys ≡ true) × Within xs ys
-
-or_false : (b : Bool) → (b || false) ≡ b
-or_false true = refl
-or_false false = refl
 
 or_assoc : (a b c : Bool) → ((a || b) || c) ≡ (a || (b || c))
 or_assoc true b c = refl
@@ -23,28 +22,28 @@ pub member_append : (x : ℕ) (a b : List ℕ) → member x (a ++ b) ≡ (member
 member_append x [] b = refl
 member_append x (y ∷ a) b = ap (λ z. eqb x y || z) (member_append x a b) ∙ sym (or_assoc (eqb x y) (member x a) (member x b))
 
-pub less_append : (a b g : List ℕ) → less (a ++ b) g ≡ less a g ++ less b g
+less_append : (a b g : List ℕ) → less (a ++ b) g ≡ less a g ++ less b g
 less_append [] b g = refl
 less_append (x ∷ a) b g =
     let ih = less_append a b g in
     elim (member x g) as (λ t. cond t (less (a ++ b) g) (x ∷ less (a ++ b) g) ≡ cond t (less a g) (x ∷ less a g) ++ less b g) [ true ↦ ih | false ↦ ap (λ z. x ∷ z) ih ]
 
-pub less_less : (a g k : List ℕ) → less a (g ++ k) ≡ less (less a g) k
+less_less : (a g k : List ℕ) → less a (g ++ k) ≡ less (less a g) k
 less_less [] g k = refl
 less_less (x ∷ a) g k =
     let ih = less_less a g k in
     let e : cond (member x (g ++ k)) (less a (g ++ k)) (x ∷ less a (g ++ k)) ≡ cond (member x g || member x k) (less (less a g) k) (x ∷ less (less a g) k) = rw (member_append x g k, ih) in
     e ∙ elim (member x g) as (λ t. cond (t || member x k) (less (less a g) k) (x ∷ less (less a g) k) ≡ less (cond t (less a g) (x ∷ less a g)) k) [ true ↦ refl | false ↦ refl ]
 
-pub up_to_append : (n : ℕ) (a b : List ℕ) → UpTo n a → UpTo n b → UpTo n (a ++ b)
+up_to_append : (n : ℕ) (a b : List ℕ) → UpTo n a → UpTo n b → UpTo n (a ++ b)
 up_to_append n [] b p q = q
 up_to_append n (x ∷ a) b p q = (p.0, up_to_append n a b p.1 q)
 
-pub up_to_more : (n k : ℕ) (a : List ℕ) → n ≤ k → UpTo n a → UpTo k a
+up_to_more : (n k : ℕ) (a : List ℕ) → n ≤ k → UpTo n a → UpTo k a
 up_to_more n k [] h p = tt
 up_to_more n k (x ∷ a) h p = let q : x ≤ n = p.0 in ((omega arith), up_to_more n k a h p.1)
 
-pub above_none : (n x : ℕ) (a : List ℕ) → n < x → UpTo n a → member x a ≡ false
+above_none : (n x : ℕ) (a : List ℕ) → n < x → UpTo n a → member x a ≡ false
 above_none n x [] h p = refl
 above_none n x (y ∷ a) h p =
     let q : y ≤ n = p.0 in
@@ -78,25 +77,18 @@ within_less [] m p = refl
 within_less (x ∷ a) m p = cond-true (member x m) (less a m) (x ∷ less a m) p.0 ∙ within_less a m p.1
 
 -- what is left of a stands in a, and not in g
-left_in : (x : ℕ) (a g : List ℕ) → member x (less a g) ≡ true → member x a ≡ true
-left_in x [] g e = e
-left_in x (y ∷ a) g e =
-    elim (cases_Bool (member y g)) [
-      | inl t ↦ or_right (eqb x y) (member x a) (left_in x a g (sym (ap (member x) (cond-true (member y g) (less a g) (y ∷ less a g) t)) ∙ e))
-      | inr f ↦
-          let e' : (eqb x y || member x (less a g)) ≡ true = sym (ap (member x) (cond-false (member y g) (less a g) (y ∷ less a g) f)) ∙ e in
-          elim (cases_Bool (eqb x y)) [ inl t ↦ or_left (eqb x y) (member x a) t | inr n ↦ or_right (eqb x y) (member x a) (left_in x a g (sym (ap (λ b. b || member x (less a g)) n) ∙ e')) ]
-    ]
-
-left_out : (x : ℕ) (a g : List ℕ) → member x (less a g) ≡ true → member x g ≡ false
-left_out x [] g e = absurd (cc)
-left_out x (y ∷ a) g e =
-    elim (cases_Bool (member y g)) [
-      | inl t ↦ left_out x a g (sym (ap (member x) (cond-true (member y g) (less a g) (y ∷ less a g) t)) ∙ e)
-      | inr f ↦
-          let e' : (eqb x y || member x (less a g)) ≡ true = sym (ap (member x) (cond-false (member y g) (less a g) (y ∷ less a g) f)) ∙ e in
-          elim (cases_Bool (eqb x y)) [ inl t ↦ ap (λ z. member z g) (eqb-true x y t) ∙ f | inr n ↦ left_out x a g (sym (ap (λ b. b || member x (less a g)) n) ∙ e') ]
-    ]
+left : (x : ℕ) (a g : List ℕ) → member x (less a g) ≡ true → (member x a ≡ true) × (member x g ≡ false)
+left x [] g e = absurd (cc)
+left x (y ∷ a) g e =
+    let more : member x (less a g) ≡ true → (member x (y ∷ a) ≡ true) × (member x g ≡ false) = λ q. (or_right (eqb x y) (member x a) (left x a g q).0, (left x a g q).1) in
+    both (member y g) (λ z. member x z ≡ true → (member x (y ∷ a) ≡ true) × (member x g ≡ false))
+    (λ _ q. more q)
+    (λ f q.
+    elim (or_cases (eqb x y) (member x (less a g)) q) [
+      | inl t ↦ (or_left (eqb x y) (member x a) t, ap (λ z. member z g) (eqb-true x y t) ∙ f)
+      | inr r ↦ more r
+    ])
+    e
 
 -- the serials live, made and destroyed of a suite whose newest serial is n
 pub record Books (n : ℕ) (live made gone : List ℕ) : Type 0 where
@@ -138,8 +130,8 @@ books_gone n x live made gone h b =
     record {
       exact = less_less made gone (x ∷ []) ∙ ap (λ z. less z (x ∷ [])) b.exact;
       anew = b.anew;
-      once = distinct_snoc gone x b.once (left_out x made gone here);
-      real = within_append gone (x ∷ []) made b.real (left_in x made gone here, tt);
+      once = distinct_snoc gone x b.once (left x made gone here).1;
+      real = within_append gone (x ∷ []) made b.real ((left x made gone here).0, tt);
       up_to = b.up_to;
     }
 

@@ -11,6 +11,8 @@ use Rattle.suite.specs.Schemes.{Scheme, Lawful, ok_role}
 use Rattle.suite.specs.Calls.{wrong_seed, spent, agreed, derived, known}
 use Rattle.promises.proofs.Cases.{both}
 
+-- keys by serial and value
+
 abbrev pub secret_key : ℕ → List ℕ → Key
 secret_key n v = record { serial = n; kind = SharedSecret; value = v }
 
@@ -36,6 +38,8 @@ pub record Two (root : List ℕ) (last n : ℕ) (v w : List ℕ) : Type 0 where
   pub value : Bytes16 v
   pub link : Bytes16 w
 
+-- suites with no key, with a shared secret, and with a link key made next
+
 abbrev pub none_live : List ℕ → ℕ → ℕ → Meaning
 none_live root last n = record { root = root; last = last; newest = n; live = [] }
 
@@ -58,7 +62,7 @@ one_formed root last n v o =
     record { root = o.base.root16; newest = o.base.below; last = o.base.word; values = (o.value, tt); serials = ((pos, self), tt); apart = (refl, tt) }
 
 -- two serials in a row differ
-pub next_differs : (n : ℕ) → eqb (n + 1) n ≡ false
+next_differs : (n : ℕ) → eqb (n + 1) n ≡ false
 next_differs n = ne_eqb (n + 1) n (λ e. omega arith)
 
 pub two_formed : (root : List ℕ) (last n : ℕ) (v w : List ℕ) → Two root last n v w → WellFormed (two_live root last n v w)

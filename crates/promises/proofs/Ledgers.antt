@@ -29,6 +29,7 @@ pub data Act (s : Scheme) (value : List ℕ) (z : End) (e : Entry) : ℕ → Lis
   gives : {n : ℕ} {held : List ℕ} → sent_in e ≡ [] → enc_in e ≡ [] → handing e ≡ true → e.written ≡ held → is_empty held ≡ false → Act s value z e n held n []
   other : {n : ℕ} {held : List ℕ} → sent_in e ≡ [] → enc_in e ≡ [] → handing e ≡ false → Act s value z e n held n held
 
+-- the acts of a session from its start
 pub data Ledger (s : Scheme) (value : List ℕ) (z : End) : History → ℕ → List ℕ → Type 0 where
   start : Ledger s value z [] s.first []
   more : {since : History} {e : Entry} {n n' : ℕ} {held held' : List ℕ} → Ledger s value z since n held → Act s value z e n held n' held' → Ledger s value z (e ∷ since) n' held'
@@ -109,7 +110,7 @@ module _ (s : Scheme) (value : List ℕ) (z : End) where
   taken_desc (more L (gives a b c d f)) = taken_desc L
   taken_desc (more L (other a b c)) = taken_desc L
 
-  pub first_le : {since : History} {n : ℕ} {held : List ℕ} → Ledger s value z since n held → s.first ≤ n
+  first_le : {since : History} {n : ℕ} {held : List ℕ} → Ledger s value z since n held → s.first ≤ n
   first_le start = omega arith
   first_le (more {n} L (sends plain a b c d)) = let y : s.first ≤ n = first_le L in omega arith
   first_le (more {n} L (takes who payload plain a b c d f g h)) = let y : s.first ≤ n = first_le L in omega arith

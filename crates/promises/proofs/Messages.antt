@@ -49,7 +49,7 @@ good_is (Ok None) t e = absurd (cc)
 good_is (Err d) t e = absurd (cc)
 
 -- the next serial is told
-pub next_listed : (n : ℕ) → listed (n + 1) ≡ (n + 1) ∷ []
+next_listed : (n : ℕ) → listed (n + 1) ≡ (n + 1) ∷ []
 next_listed n = let e : eqb (n + 1) 0 ≡ false = ne_eqb (n + 1) 0 (λ x. omega arith) in rw e
 
 module _ (s : Scheme) (law : Lawful s) (c : Call) (sep : ℕ) where

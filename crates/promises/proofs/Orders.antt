@@ -3,6 +3,7 @@ use Rattle.std.proofs.Common.{◌≡◌, ℕ, ◌+◌, ◌<◌, ◌≤◌, ◌�
 use Rattle.std.proofs.lemmas.Bool.{cases_lt}
 use Rattle.histories.specs.Sessions.{Part, done, skip, use', Begins}
 
+-- a record by its number and its data
 pub record Rec : Type 0 where
   pub num : ℕ
   pub bytes : List ℕ
@@ -12,6 +13,7 @@ abbrev pub to_data : List Rec → List (List ℕ)
 to_data [] = []
 to_data (r ∷ X) = to_data X ++ (r.bytes ∷ [])
 
+-- the record of that number and data is among these
 abbrev pub Has : ℕ → List ℕ → List Rec → Type 0
 Has n d [] = ⊥
 Has n d (r ∷ X) = ((n ≡ r.num) × (d ≡ r.bytes)) ⊎ Has n d X
@@ -21,6 +23,7 @@ abbrev pub Desc : ℕ → List Rec → Type 0
 Desc b [] = Unit {0}
 Desc b (r ∷ X) = (r.num < b) × Desc r.num X
 
+-- each record of the first list is in the second
 abbrev pub Sub : List Rec → List Rec → Type 0
 Sub X Y = (n : ℕ) (d : List ℕ) → Has n d X → Has n d Y
 
@@ -28,7 +31,7 @@ pub desc_more : (b c : ℕ) (X : List Rec) → b ≤ c → Desc b X → Desc c X
 desc_more b c [] h d = tt
 desc_more b c (r ∷ X) h d = let q : r.num < b = d.0 in ((omega arith), d.1)
 
-pub has_below : (b n : ℕ) (d : List ℕ) (X : List Rec) → Desc b X → Has n d X → n < b
+has_below : (b n : ℕ) (d : List ℕ) (X : List Rec) → Desc b X → Has n d X → n < b
 has_below b n d [] p h = absurd h
 has_below b n d (r ∷ X) p h =
     let q : r.num < b = p.0 in
@@ -105,7 +108,7 @@ sub_part b c (x ∷ X) (y ∷ Y) p q f =
           part_more (y.bytes ∷ []) (sub_part (x.num + 1) y.num (x ∷ X) Y low q.1 (λ n d k. above y (x.num + 1) (x ∷ X) Y n d le low k (f n d k)))
     ]
 
-pub sub_same : (b c : ℕ) (X Y : List Rec) → Desc b X → Desc c Y → Sub X Y → Sub Y X → to_data X ≡ to_data Y
+sub_same : (b c : ℕ) (X Y : List Rec) → Desc b X → Desc c Y → Sub X Y → Sub Y X → to_data X ≡ to_data Y
 sub_same b c [] [] p q f g = refl
 sub_same b c (x ∷ X) [] p q f g = absurd (f x.num x.bytes (inl (refl, refl)))
 sub_same b c [] (y ∷ Y) p q f g = absurd (g y.num y.bytes (inl (refl, refl)))

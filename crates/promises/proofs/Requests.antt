@@ -24,7 +24,7 @@ use Rattle.promises.proofs.Turns.{silent, unmoved, not_linked, not_idle, did_ref
 use Rattle.promises.proofs.Messages.{did_taken}
 
 -- data that a record can have is not empty
-pub not_empty : (xs : List ℕ) → is_empty xs ≡ false → 0 < length xs
+not_empty : (xs : List ℕ) → is_empty xs ≡ false → 0 < length xs
 not_empty [] e = absurd (cc)
 not_empty (x ∷ xs) e = omega arith
 

@@ -33,15 +33,18 @@ pub record SecretOnly (state : State) : Type 0 where
   pub low : 2 ≤ state_mark state
   pub high : state_mark state ≤ 4
 
+-- an entity between two calls
 pub data Sound (s : Scheme) : Model → Type 0 where
   at_idle : {root : List ℕ} {last newest : ℕ} {service : Service} {role : Role} {seed : List ℕ} {number : ℕ} → Base root last newest → Sound s (unlinked (none_live root last newest) Idle service role seed number 0)
   at_select : {root : List ℕ} {last newest : ℕ} {service : Service} {role : Role} {seed : List ℕ} {number : ℕ} → Base root last newest → Bytes16 seed → Sound s (unlinked (none_live root last newest) Select service role seed number 0)
   at_secret : {root : List ℕ} {last n : ℕ} {v : List ℕ} {service : Service} {role : Role} {seed : List ℕ} {number : ℕ} (state : State) → SecretOnly state → One root last n v → Sound s (unlinked (one_live root last n v) state service role seed number n)
   at_sch : {root : List ℕ} {last n : ℕ} {v w : List ℕ} {role : Role} {seed : List ℕ} {number : ℕ} {held : List ℕ} → Two root last n v w → s.first ≤ number → number ≤ s.final → Sound s (in_link (two_live root last n v w) role seed number held n)
 
+-- it has a link key
 abbrev pub has_link : Model → Bool
 has_link m = in_state m ConfirmedSch
 
+-- its end of the link session
 abbrev pub end_of : Model → End
 end_of m = record { root = m.means.root; serial = m.link; role = role_byte m.role }
 
