@@ -74,18 +74,19 @@ has_secret EstablishedRecipient = true
 has_secret ConfirmedSse = true
 has_secret ConfirmedSch = true
 
--- whatever a call asks of the suite in the state that the entity is in, it is not denied as unfit or unknown
+-- whatever a call asks of the suite, in the state that the entity is in, is not denied as unfit or unknown
 pub record AsksWell (s : Scheme) (m : Model) : Type 0 where
   pub formed : WellFormed m.means
-  -- an offer and an agreement, with the seed that the call brings or the one kept in Select; then, in the same call, the new secret
+  -- invoke and ACT_REQ ask for an offer, ACT_REQ and ACT_RES for an agreement; ACT_RES brings no seed, so one is kept
   pub offer : (seed : List ℕ) (room : ℕ) → length seed ≡ 16 → 255 ≤ room → WellAsked (offered s m.means seed room)
   pub agreement : (seed offer : List ℕ) (role : Role) → length seed ≡ 16 → WellAsked (agreed s m.means seed offer (role_byte role))
   pub kept_seed : m.state ≡ Select → length m.seed ≡ 16
+  -- the call that agrees may ask at once for a check value of the new secret
   pub new_secret : has_secret m.state ≡ false → (value : List ℕ) → ServesAsSecret s (adding m.means SharedSecret value) (m.means.newest + 1)
-  -- the entity's own keys
+  -- VFY_REQ, VFY_RES and retrieve_secret ask for the shared secret, send and ENC for the link key
   pub secret : has_secret m.state ≡ true → ServesAsSecret s m.means m.secret
   pub link : m.state ≡ ConfirmedSch → ServesAsLink s m.means m.link
-  -- the keys that go where Idle is entered, the link key first; 0 is none
+  -- where Idle is entered the keys are destroyed, the link key first; 0 is none
   pub link_goes : m.link ≢ 0 → WellAsked (destroy_answer m.means m.link)
   pub secret_goes : m.secret ≢ 0 → WellAsked (destroy_answer (without_key m.means m.link) m.secret)
 
@@ -97,7 +98,7 @@ pub record Kept (s : Scheme) (m : Model) (h : History) : Type 0 where
   pub sessions : SessionsKept s m h
   pub suite : AsksWell s m
 
--- for every kind of suite, every fresh entity and every list of calls: so it holds of the entity that any call of a run is made to
+-- for every kind of suite, every fresh entity and every list of calls; so also of the entity that any call of a run is made to
 abbrev pub EveryRun : Type 0
 EveryRun = (s : Scheme) → Lawful s → (m : Model) → Fresh m → (calls : List Call) → AllByRecursion GivenBytes calls → Kept s (after s m calls) (history s m calls)
 
