@@ -1,0 +1,164 @@
+-- What an entity asks of its suite is never denied as unfit or unknown.
+use Rattle.std.proofs.Common.{◌≡◌, ◌≢◌, ℕ, ◌+◌, ◌≤◌, Bool, true, false, cond, not, ◌||◌, eqb, ltb, List, [], ◌∷◌, length, Some, Ok, Err, Option, Result, sym, refl, ap, subst, arith}
+use Rattle.std.proofs.lemmas.Bool.{ne_eqb, eq-eqb, le-ltb, or_from, or_left, or_right, not_from_true}
+use Rattle.frame.specs.declared.types.Service.{Service}
+use Rattle.suite.specs.declared.types.Role.{Role}
+use Rattle.suite.specs.declared.types.Role.TheVariants.{Sender, Recipient}
+use Rattle.suite.specs.declared.types.KeyKind.TheVariants.{SharedSecret, LinkKey}
+use Rattle.suite.specs.declared.types.Denial.{Denial}
+use Rattle.suite.specs.declared.types.Denial.TheVariants.{BadOffer, Spent, Unfit}
+use Rattle.suite.specs.Numbers.{role_byte}
+use Rattle.suite.specs.Meanings.{Meaning, value_in, is_live}
+use Rattle.suite.specs.Schemes.{Scheme, Lawful, ok_role}
+use Rattle.suite.specs.Calls.{wrong_seed, no_room, spent, adding, known, offered, agreed, destroy_answer}
+use Rattle.protocol.specs.declared.states.State.{State}
+use Rattle.protocol.specs.declared.states.State.TheVariants.{Idle, Select, EstablishedSender, EstablishedRecipient, ConfirmedSse, ConfirmedSch}
+use Rattle.protocol.specs.Numbers.{state_mark}
+use Rattle.protocol.specs.Models.{Model, without_key}
+use Rattle.promises.specs.Promises.{WellAsked, ServesAsSecret, ServesAsLink, AsksWell, has_secret}
+use Rattle.promises.proofs.Cases.{both, clash}
+use Rattle.promises.proofs.Forms.{Base, One, Two, none_live, one_live, two_live, secret_key, link_key, none_formed, one_formed, two_formed, secret_there, link_there}
+use Rattle.promises.proofs.Sounds.{unlinked, in_link, SecretOnly, Sound, at_idle, at_select, at_secret, at_sch}
+
+pub role_ok : (r : Role) → ok_role (role_byte r) ≡ true
+role_ok Sender = refl
+role_ok Recipient = refl
+
+-- Answers that are no such denial.
+
+answered : {A : Type 0} (x : A) → WellAsked (Ok x)
+answered x = record { fit = λ e. (cc); known = λ e. (cc) }
+
+bad_offer : {A : Type 0} → WellAsked {A = A} (Err BadOffer)
+bad_offer = record { fit = λ e. (cc); known = λ e. (cc) }
+
+is_spent : {A : Type 0} → WellAsked {A = A} (Err Spent)
+is_spent = record { fit = λ e. (cc); known = λ e. (cc) }
+
+-- where the test of unfitness fails
+past : {A : Type 0} (b : Bool) (r : Result A Denial) → b ≡ false → WellAsked r → WellAsked (cond b (Err Unfit) r)
+past b r f g = both b WellAsked (λ t. clash b f t) (λ _. g)
+
+-- with the value of the key
+with_value : {A : Type 0} (f : List ℕ → Result A Denial) (o : Option (List ℕ)) (v : List ℕ) → o ≡ Some v → WellAsked (f v) → WellAsked (known f o)
+with_value f o v e g = subst (λ z. WellAsked (known f z)) (sym e) g
+
+room_enough : (room : ℕ) → 255 ≤ room → no_room room ≡ false
+room_enough room h = le-ltb room 255 h
+
+seed_fits : (seed : List ℕ) → length seed ≡ 16 → wrong_seed seed ≡ false
+seed_fits seed e = not_from_true (eqb (length seed) 16) (eq-eqb (length seed) 16 e)
+
+role_fits : (r : Role) → not (ok_role (role_byte r)) ≡ false
+role_fits r = not_from_true (ok_role (role_byte r)) (role_ok r)
+
+-- The suite's calls.
+
+offer_asked : (s : Scheme) (m : Meaning) (seed : List ℕ) (room : ℕ) → length seed ≡ 16 → 255 ≤ room → WellAsked (offered s m seed room)
+offer_asked s m seed room e h = past (wrong_seed seed || no_room room) _ (or_from (wrong_seed seed) (no_room room) (seed_fits seed e) (room_enough room h)) (answered _)
+
+agreement_asked : (s : Scheme) (m : Meaning) (seed offer : List ℕ) (role : Role) → length seed ≡ 16 → WellAsked (agreed s m seed offer (role_byte role))
+agreement_asked s m seed offer role e =
+    past (wrong_seed seed || not (ok_role (role_byte role))) _ (or_from (wrong_seed seed) (not (ok_role (role_byte role))) (seed_fits seed e) (role_fits role))
+    (both (not (s.fit_of m.root offer)) WellAsked (λ _. bad_offer) (λ _. both (spent m) WellAsked (λ _. is_spent) (λ _. answered _)))
+
+secret_serves : (s : Scheme) (m : Meaning) (key : ℕ) (v : List ℕ) → value_in m.live SharedSecret key ≡ Some v → ServesAsSecret s m key
+secret_serves s m key v e = record {
+  check = λ role room h. past (not (ok_role (role_byte role)) || no_room room) _ (or_from (not (ok_role (role_byte role))) (no_room room) (role_fits role) (room_enough room h)) (with_value _ _ v e (answered _));
+  link = with_value _ _ v e (both (spent m) WellAsked (λ _. is_spent) (λ _. answered _));
+  value = λ room h. past (ltb room 16) _ (le-ltb room 16 h) (with_value _ _ v e (answered _));
+}
+
+link_serves : (s : Scheme) → Lawful s → (m : Meaning) (key : ℕ) (w : List ℕ) → value_in m.live LinkKey key ≡ Some w → ServesAsLink s m key
+link_serves s law m key w e = record {
+  seal = λ role n plain room long top h.
+      let final = law.final_bound in
+      let low : n ≤ 16777215 = omega arith in
+      let short = or_from (not (ok_role (role_byte role))) (ltb 200 (length plain)) (role_fits role) (le-ltb 200 (length plain) long) in
+      let numbered = or_from (not (ok_role (role_byte role)) || ltb 200 (length plain)) (ltb 16777215 n) short (le-ltb 16777215 n low) in
+      past _ _ (or_from (not (ok_role (role_byte role)) || ltb 200 (length plain) || ltb 16777215 n) (no_room room) numbered (room_enough room h)) (with_value _ _ w e (answered _));
+  unseal = λ payload room short h. past (ltb 254 (length payload) || no_room room) _ (or_from (ltb 254 (length payload)) (no_room room) (le-ltb 254 (length payload) short) (room_enough room h)) (with_value _ _ w e (answered _));
+}
+
+destroy_asked : (m : Meaning) (key : ℕ) → is_live m.live key ≡ true → WellAsked (destroy_answer m key)
+destroy_asked m key e = both (is_live m.live key) WellAsked (λ _. answered _) (λ f. clash (is_live m.live key) f e)
+
+-- An entity over its suite.
+
+no_key : {P : Type 0} → ◌≢◌ {A = ℕ} 0 0 → P
+no_key ne = absurd (ne refl)
+
+above_select : {state : State} → SecretOnly state → state ≢ Select
+above_select k e = let mark = ap state_mark e in let low = k.low in omega arith
+
+below_link : {state : State} → SecretOnly state → state ≢ ConfirmedSch
+below_link k e = let mark = ap state_mark e in let high = k.high in omega arith
+
+with_secret : (state : State) → SecretOnly state → has_secret state ≢ false
+with_secret Idle k e = let low = k.low in omega arith
+with_secret Select k e = let low = k.low in omega arith
+with_secret EstablishedSender k e = cc
+with_secret EstablishedRecipient k e = cc
+with_secret ConfirmedSse k e = cc
+with_secret ConfirmedSch k e = cc
+
+alone_live : (n : ℕ) (v : List ℕ) → is_live (secret_key n v ∷ []) n ≡ true
+alone_live n v = or_left (eqb n n) false (eq-eqb n n refl)
+
+link_live : (n : ℕ) (v w : List ℕ) → is_live (secret_key n v ∷ link_key (n + 1) w ∷ []) (n + 1) ≡ true
+link_live n v w = or_right (eqb n (n + 1)) (eqb (n + 1) (n + 1) || false) (or_left (eqb (n + 1) (n + 1)) false (eq-eqb (n + 1) (n + 1) refl))
+
+-- the shared secret stays where the link key goes
+secret_stays : (root : List ℕ) (last n : ℕ) (v w : List ℕ) → is_live (without_key (two_live root last n v w) (n + 1)).live n ≡ true
+secret_stays root last n v w =
+    let above : eqb (n + 1) 0 ≡ false = ne_eqb (n + 1) 0 (λ x. omega arith) in
+    let apart : eqb n (n + 1) ≡ false = ne_eqb n (n + 1) (λ x. omega arith) in
+    let self = eq-eqb n n refl in
+    rw (above, apart, self)
+
+module _ (s : Scheme) (law : Lawful s) where
+  -- with no key
+  serves_none : (root : List ℕ) (last n : ℕ) {state : State} {service : Service} {role : Role} {seed : List ℕ} {number : ℕ} → Base root last n → state ≢ ConfirmedSch → has_secret state ≡ false → (state ≡ Select → length seed ≡ 16) → AsksWell s (unlinked (none_live root last n) state service role seed number 0)
+  serves_none root last n b unlinked' none kept = record {
+    formed = none_formed root last n b;
+    offer = λ seed room e h. offer_asked s (none_live root last n) seed room e h;
+    agreement = λ seed offer role e. agreement_asked s (none_live root last n) seed offer role e;
+    kept_seed = kept;
+    new_secret = λ _ value. secret_serves s (adding (none_live root last n) SharedSecret value) (n + 1) value (secret_there (n + 1) value []);
+    secret = λ some. clash _ none some;
+    link = λ e. absurd (unlinked' e);
+    link_goes = no_key;
+    secret_goes = no_key;
+  }
+
+  serves_secret : (root : List ℕ) (last n : ℕ) (v : List ℕ) {state : State} {service : Service} {role : Role} {seed : List ℕ} {number : ℕ} → SecretOnly state → One root last n v → AsksWell s (unlinked (one_live root last n v) state service role seed number n)
+  serves_secret root last n v k one = record {
+    formed = one_formed root last n v one;
+    offer = λ seed room e h. offer_asked s (one_live root last n v) seed room e h;
+    agreement = λ seed offer role e. agreement_asked s (one_live root last n v) seed offer role e;
+    kept_seed = λ e. absurd (above_select k e);
+    new_secret = λ none value. absurd (with_secret _ k none);
+    secret = λ some. secret_serves s (one_live root last n v) n v (secret_there n v []);
+    link = λ e. absurd (below_link k e);
+    link_goes = no_key;
+    secret_goes = λ ne. destroy_asked (one_live root last n v) n (alone_live n v);
+  }
+
+  serves_link : (root : List ℕ) (last n : ℕ) (v w : List ℕ) {role : Role} {seed : List ℕ} {number : ℕ} {held : List ℕ} → Two root last n v w → AsksWell s (in_link (two_live root last n v w) role seed number held n)
+  serves_link root last n v w two = record {
+    formed = two_formed root last n v w two;
+    offer = λ seed room e h. offer_asked s (two_live root last n v w) seed room e h;
+    agreement = λ seed offer role e. agreement_asked s (two_live root last n v w) seed offer role e;
+    kept_seed = λ e. (cc);
+    new_secret = λ none value. (cc);
+    secret = λ some. secret_serves s (two_live root last n v w) n v (secret_there n v (link_key (n + 1) w ∷ []));
+    link = λ e. link_serves s law (two_live root last n v w) (n + 1) w (link_there n v w);
+    link_goes = λ ne. destroy_asked (two_live root last n v w) (n + 1) (link_live n v w);
+    secret_goes = λ ne. destroy_asked (without_key (two_live root last n v w) (n + 1)) n (secret_stays root last n v w);
+  }
+
+  pub asks_well : {m : Model} → Sound s m → AsksWell s m
+  asks_well (at_idle {root} {last} {newest} b) = serves_none root last newest b (λ e. (cc)) refl (λ e. absurd (cc))
+  asks_well (at_select {root} {last} {newest} b h) = serves_none root last newest b (λ e. (cc)) refl (λ e. h.long)
+  asks_well (at_secret {root} {last} {n} {v} state k one) = serves_secret root last n v k one
+  asks_well (at_sch {root} {last} {n} {v} {w} two lo hi) = serves_link root last n v w two

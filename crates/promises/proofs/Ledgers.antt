@@ -1,0 +1,218 @@
+-- What the calls of one link session sent, took in and handed out.
+use Rattle.std.proofs.Common.{◌≡◌, ℕ, ◌+◌, ◌<◌, ◌≤◌, true, false, cond, ◌||◌, eqb, ◌⊎◌, List, [], ◌∷◌, ◌++◌, Some, Option, sym, refl, ap, ◌∙◌, subst, inl, inr, append_assoc, append-nil, arith}
+use Rattle.std.proofs.lemmas.Bool.{cases_lt, eq-eqb, or_left, or_right}
+use Rattle.suite.specs.Meanings.{Bytes16}
+use Rattle.suite.specs.Schemes.{Scheme, Lawful, Sealable, ok_role}
+use Rattle.protocol.specs.Steps.{is_empty}
+use Rattle.histories.specs.Histories.{Entry, History, member, sent, sent_in, handed, handing}
+use Rattle.histories.specs.Sessions.{encs, enc_in, numbers, number_in, opens_to, In, CopyIn, OnlyCopies}
+use Rattle.promises.proofs.Books.{member_append}
+use Rattle.promises.proofs.Orders.{Rec, to_data, Has, Desc, desc_more}
+
+-- an end of a link session: the root of its suite, the serial of its link key, and its role
+pub record End : Type 0 where
+  pub root : List ℕ
+  pub serial : ℕ
+  pub role : ℕ
+
+-- what it seals and opens, by the value of its link key
+abbrev pub seal : Scheme → List ℕ → End → ℕ → List ℕ → List ℕ
+seal s value z n plain = s.seal_of z.root z.serial value z.role n plain
+
+abbrev pub unseal : Scheme → List ℕ → End → List ℕ → Option (ℕ × ℕ × List ℕ)
+unseal s value z payload = s.open_of z.root z.serial value payload
+
+-- what one call in a session does: the number and the held data before and after
+pub data Act (s : Scheme) (value : List ℕ) (z : End) (e : Entry) : ℕ → List ℕ → ℕ → List ℕ → Type 0 where
+  sends : {n : ℕ} {held : List ℕ} (plain : List ℕ) → sent_in e ≡ plain ∷ [] → enc_in e ≡ (0x14 ∷ seal s value z (n + 1) plain) ∷ [] → handing e ≡ false → Sealable s (n + 1) plain → Act s value z e n held (n + 1) held
+  takes : {n : ℕ} (who : ℕ) (payload plain : List ℕ) → sent_in e ≡ [] → enc_in e ≡ [] → handing e ≡ false → ((copies : List (List ℕ)) → CopyIn copies e.call → In (0x14 ∷ payload) copies) → unseal s value z payload ≡ Some (who, n + 1, plain) → eqb who z.role ≡ false → is_empty plain ≡ false → Act s value z e n [] (n + 1) plain
+  gives : {n : ℕ} {held : List ℕ} → sent_in e ≡ [] → enc_in e ≡ [] → handing e ≡ true → e.written ≡ held → is_empty held ≡ false → Act s value z e n held n []
+  other : {n : ℕ} {held : List ℕ} → sent_in e ≡ [] → enc_in e ≡ [] → handing e ≡ false → Act s value z e n held n held
+
+-- the acts of a session from its start
+pub data Ledger (s : Scheme) (value : List ℕ) (z : End) : History → ℕ → List ℕ → Type 0 where
+  start : Ledger s value z [] s.first []
+  more : {since : History} {e : Entry} {n n' : ℕ} {held held' : List ℕ} → Ledger s value z since n held → Act s value z e n held n' held' → Ledger s value z (e ∷ since) n' held'
+
+-- the data that is held and not yet handed out
+abbrev pub waiting : List ℕ → List (List ℕ)
+waiting [] = []
+waiting (x ∷ xs) = (x ∷ xs) ∷ []
+
+one_waiting : (plain : List ℕ) → is_empty plain ≡ false → waiting plain ≡ plain ∷ []
+one_waiting [] e = absurd (cc)
+one_waiting (x ∷ xs) e = refl
+
+none_handed : (e : Entry) (since : History) → handing e ≡ false → handed (e ∷ since) ≡ handed since
+none_handed e since h = ap (λ b. handed since ++ cond b (e.written ∷ []) []) h ∙ append-nil (handed since)
+
+unsent : (e : Entry) (since : History) → enc_in e ≡ [] → encs (e ∷ since) ≡ encs since
+unsent e since h = ap (λ z. encs since ++ z) h ∙ append-nil (encs since)
+
+pub in_append : (x : List ℕ) (xs ys : List (List ℕ)) → In x (xs ++ ys) → In x xs ⊎ In x ys
+in_append x [] ys h = inr h
+in_append x (y ∷ xs) ys h = elim h [ inl e ↦ inl (inl e) | inr k ↦ elim (in_append x xs ys k) [ inl a ↦ inl (inr a) | inr b ↦ inr b ] ]
+
+module _ (s : Scheme) (value : List ℕ) (z : End) where
+  -- the records sent and taken in
+
+  abbrev pub add_sent : {e : Entry} {n n' : ℕ} {held held' : List ℕ} → List Rec → Act s value z e n held n' held' → List Rec
+  add_sent X (sends {n} plain a b c d) = record { num = n + 1; bytes = plain } ∷ X
+  add_sent X (takes who payload plain a b c d f g h) = X
+  add_sent X (gives a b c d f) = X
+  add_sent X (other a b c) = X
+
+  abbrev pub add_taken : {e : Entry} {n n' : ℕ} {held held' : List ℕ} → List Rec → Act s value z e n held n' held' → List Rec
+  add_taken X (sends plain a b c d) = X
+  add_taken X (takes {n} who payload plain a b c d f g h) = record { num = n + 1; bytes = plain } ∷ X
+  add_taken X (gives a b c d f) = X
+  add_taken X (other a b c) = X
+
+  abbrev pub sent_of : {since : History} {n : ℕ} {held : List ℕ} → Ledger s value z since n held → List Rec
+  sent_of start = []
+  sent_of (more L a) = add_sent (sent_of L) a
+
+  abbrev pub taken_of : {since : History} {n : ℕ} {held : List ℕ} → Ledger s value z since n held → List Rec
+  taken_of start = []
+  taken_of (more L a) = add_taken (taken_of L) a
+
+  pub sent_is : {since : History} {n : ℕ} {held : List ℕ} (L : Ledger s value z since n held) → sent since ≡ to_data (sent_of L)
+  sent_is start = refl
+  sent_is (more {since} L (sends plain a b c d)) = ap (λ y. sent since ++ y) a ∙ ap (λ y. y ++ (plain ∷ [])) (sent_is L)
+  sent_is (more {since} L (takes who payload plain a b c d f g h)) = ap (λ y. sent since ++ y) a ∙ append-nil (sent since) ∙ sent_is L
+  sent_is (more {since} L (gives a b c d f)) = ap (λ y. sent since ++ y) a ∙ append-nil (sent since) ∙ sent_is L
+  sent_is (more {since} L (other a b c)) = ap (λ y. sent since ++ y) a ∙ append-nil (sent since) ∙ sent_is L
+
+  pub taken_is : {since : History} {n : ℕ} {held : List ℕ} (L : Ledger s value z since n held) → to_data (taken_of L) ≡ handed since ++ waiting held
+  taken_is start = refl
+  taken_is (more {since} {e} {held} L (sends plain a b c d)) = taken_is L ∙ ap (λ y. y ++ waiting held) (sym (none_handed e since c))
+  taken_is (more {since} {e} L (takes who payload plain a b c d f g h)) =
+      let was : to_data (taken_of L) ≡ handed since = taken_is L ∙ append-nil (handed since) in
+      ap (λ y. y ++ (plain ∷ [])) (was ∙ sym (none_handed e since c)) ∙ ap (λ y. handed (e ∷ since) ++ y) (sym (one_waiting plain h))
+  taken_is (more {since} {e} {held} L (gives a b c d f)) =
+      let out : handed (e ∷ since) ≡ handed since ++ (held ∷ []) = ap (λ t. handed since ++ cond t (e.written ∷ []) []) c ∙ ap (λ y. handed since ++ (y ∷ [])) d in
+      taken_is L ∙ ap (λ y. handed since ++ y) (one_waiting held f) ∙ sym out ∙ sym (append-nil (handed (e ∷ since)))
+  taken_is (more {since} {e} {held} L (other a b c)) = taken_is L ∙ ap (λ y. y ++ waiting held) (sym (none_handed e since c))
+
+  -- their numbers fall from the newest
+
+  pub sent_desc : {since : History} {n : ℕ} {held : List ℕ} (L : Ledger s value z since n held) → Desc (n + 1) (sent_of L)
+  sent_desc start = tt
+  sent_desc (more {n} L (sends plain a b c d)) = ((omega arith), sent_desc L)
+  sent_desc (more {n} L (takes who payload plain a b c d f g h)) = desc_more (n + 1) (n + 1 + 1) _ (omega arith) (sent_desc L)
+  sent_desc (more L (gives a b c d f)) = sent_desc L
+  sent_desc (more L (other a b c)) = sent_desc L
+
+  pub taken_desc : {since : History} {n : ℕ} {held : List ℕ} (L : Ledger s value z since n held) → Desc (n + 1) (taken_of L)
+  taken_desc start = tt
+  taken_desc (more {n} L (sends plain a b c d)) = desc_more (n + 1) (n + 1 + 1) _ (omega arith) (taken_desc L)
+  taken_desc (more {n} L (takes who payload plain a b c d f g h)) = ((omega arith), taken_desc L)
+  taken_desc (more L (gives a b c d f)) = taken_desc L
+  taken_desc (more L (other a b c)) = taken_desc L
+
+  first_le : {since : History} {n : ℕ} {held : List ℕ} → Ledger s value z since n held → s.first ≤ n
+  first_le start = omega arith
+  first_le (more {n} L (sends plain a b c d)) = let y : s.first ≤ n = first_le L in omega arith
+  first_le (more {n} L (takes who payload plain a b c d f g h)) = let y : s.first ≤ n = first_le L in omega arith
+  first_le (more L (gives a b c d f)) = first_le L
+  first_le (more L (other a b c)) = first_le L
+
+  -- a record sent: its number lies above the first, and it can be sealed
+  pub record Good (k : ℕ) (x : List ℕ) : Type 0 where
+    pub above : s.first < k
+    pub fit : Sealable s k x
+
+  pub sent_good : {since : History} {n : ℕ} {held : List ℕ} (L : Ledger s value z since n held) (k : ℕ) (x : List ℕ) → Has k x (sent_of L) → Good k x
+  sent_good start k x h = absurd h
+  sent_good (more {n} L (sends plain a b c d)) k x h =
+      elim h [
+        | inl q ↦
+            (let low : s.first ≤ n = first_le L in
+            let new : Good (n + 1) plain = record { above = omega arith; fit = d } in
+            subst (λ y. Good k y) (sym q.1) (subst (λ y. Good y plain) (sym q.0) new))
+        | inr r ↦ sent_good L k x r
+      ]
+  sent_good (more L (takes who payload plain a b c d f g h)) k x i = sent_good L k x i
+  sent_good (more L (gives a b c d f)) k x h = sent_good L k x h
+  sent_good (more L (other a b c)) k x h = sent_good L k x h
+
+  -- every number up to the newest was sent or taken in
+  abbrev pub Either : List Rec → List Rec → ℕ → Type 0
+  Either X Y k = ((d : List ℕ) × Has k d X) ⊎ ((d : List ℕ) × Has k d Y)
+
+  pub complete : {since : History} {n : ℕ} {held : List ℕ} (L : Ledger s value z since n held) (k : ℕ) → s.first < k → k ≤ n → Either (sent_of L) (taken_of L) k
+  complete start k lo hi = absurd (omega arith)
+  complete (more {n} L (sends plain a b c d)) k lo hi =
+      elim (cases_lt n k) [
+        | inl l ↦ inl (plain, inl ((omega arith), refl))
+        | inr l ↦ elim (complete L k lo l) [ inl (x, h) ↦ inl (x, inr h) | inr y ↦ inr y ]
+      ]
+  complete (more {n} L (takes who payload plain a b c d f g h)) k lo hi =
+      elim (cases_lt n k) [
+        | inl l ↦ inr (plain, inl ((omega arith), refl))
+        | inr l ↦ elim (complete L k lo l) [ inl y ↦ inl y | inr (x, i) ↦ inr (x, inr i) ]
+      ]
+  complete (more L (gives a b c d f)) k lo hi = complete L k lo hi
+  complete (more L (other a b c)) k lo hi = complete L k lo hi
+
+  -- a record taken in: a copy that opens to it, under another role
+  pub record Copied (copies : List (List ℕ)) (k : ℕ) (x : List ℕ) : Type 0 where
+    pub who : ℕ
+    pub payload : List ℕ
+    pub copy : In (0x14 ∷ payload) copies
+    pub opens : unseal s value z payload ≡ Some (who, k, x)
+    pub theirs : eqb who z.role ≡ false
+
+  pub taken_copied : {since : History} {n : ℕ} {held : List ℕ} (L : Ledger s value z since n held) (copies : List (List ℕ)) → OnlyCopies copies since → (k : ℕ) (x : List ℕ) → Has k x (taken_of L) → Copied copies k x
+  taken_copied start copies o k x h = absurd h
+  taken_copied (more L (sends plain a b c d)) copies o k x h = taken_copied L copies o.1 k x h
+  taken_copied (more {n} L (takes who payload plain a b c d f g h)) copies o k x i =
+      elim i [
+        | inl q ↦ record { who = who; payload = payload; copy = d copies o.0; opens = f ∙ ap (λ y. Some (who, y, plain)) (sym q.0) ∙ ap (λ y. Some (who, k, y)) (sym q.1); theirs = g }
+        | inr r ↦ taken_copied L copies o.1 k x r
+      ]
+  taken_copied (more L (gives a b c d f)) copies o k x h = taken_copied L copies o.1 k x h
+  taken_copied (more L (other a b c)) copies o k x h = taken_copied L copies o.1 k x h
+
+  -- an ENC of the session: which record it seals
+  pub record Sealed (X : List Rec) (enc : List ℕ) : Type 0 where
+    pub num : ℕ
+    pub plain : List ℕ
+    pub has : Has num plain X
+    pub is : enc ≡ 0x14 ∷ seal s value z num plain
+
+  pub enc_sealed : {since : History} {n : ℕ} {held : List ℕ} (L : Ledger s value z since n held) (x : List ℕ) → In x (encs since) → Sealed (sent_of L) x
+  enc_sealed start x h = absurd h
+  enc_sealed (more {since} {e} {n} L (sends plain a b c d)) x h =
+      elim (in_append x (encs since) ((0x14 ∷ seal s value z (n + 1) plain) ∷ []) (subst (λ y. In x (encs since ++ y)) b h)) [
+        | inl i ↦ (let r = enc_sealed L x i in record { num = r.num; plain = r.plain; has = inr r.has; is = r.is })
+        | inr i ↦ elim i [ inl q ↦ record { num = n + 1; plain = plain; has = inl (refl, refl); is = q } | inr y ↦ absurd y ]
+      ]
+  enc_sealed (more {since} {e} L (takes who payload plain a b c d f g h)) x i = enc_sealed L x (subst (λ y. In x y) (unsent e since b) i)
+  enc_sealed (more {since} {e} L (gives a b c d f)) x h = enc_sealed L x (subst (λ y. In x y) (unsent e since b) h)
+  enc_sealed (more {since} {e} L (other a b c)) x h = enc_sealed L x (subst (λ y. In x y) (unsent e since b) h)
+
+  -- the numbers that ENCs open to
+  abbrev pub told : List (List ℕ) → List ℕ
+  told xs = numbers s z.root z.serial value xs
+
+  told_append : (xs ys : List (List ℕ)) → told (xs ++ ys) ≡ told xs ++ told ys
+  told_append [] ys = refl
+  told_append (x ∷ xs) ys = ap (λ y. number_in s z.root z.serial value x ++ y) (told_append xs ys) ∙ sym (append_assoc (number_in s z.root z.serial value x) (told xs) (told ys))
+
+  -- the number of each record sent is among those that the session's ENCs open to
+  module _ (law : Lawful s) (ok : ok_role z.role ≡ true) (r16 : Bytes16 z.root) (v16 : Bytes16 value) where
+    pub number_told : {since : History} {n : ℕ} {held : List ℕ} (L : Ledger s value z since n held) (k : ℕ) (x : List ℕ) → Has k x (sent_of L) → member k (told (encs since)) ≡ true
+    number_told start k x h = absurd h
+    number_told (more {since} {e} {n} L (sends plain a b c d)) k x h =
+        let opens : unseal s value z (seal s value z (n + 1) plain) ≡ Some (z.role, n + 1, plain) = law.opens z.root z.root value plain z.serial z.serial z.role (n + 1) r16 r16 v16 ok d in
+        let new : told (enc_in e) ≡ (n + 1) ∷ [] = ap told b ∙ ap (λ y. opens_to y ++ []) opens in
+        let all : told (encs (e ∷ since)) ≡ told (encs since) ++ ((n + 1) ∷ []) = told_append (encs since) (enc_in e) ∙ ap (λ y. told (encs since) ++ y) new in
+        ap (member k) all ∙ member_append k (told (encs since)) ((n + 1) ∷ []) ∙
+        elim h [
+          | inl q ↦ or_right (member k (told (encs since))) (eqb k (n + 1) || false) (or_left (eqb k (n + 1)) false (eq-eqb k (n + 1) q.0))
+          | inr r ↦ or_left (member k (told (encs since))) (eqb k (n + 1) || false) (number_told L k x r)
+        ]
+    number_told (more {since} {e} L (takes who payload plain a b c d f g h)) k x i = ap (λ y. member k (told y)) (unsent e since b) ∙ number_told L k x i
+    number_told (more {since} {e} L (gives a b c d f)) k x h = ap (λ y. member k (told y)) (unsent e since b) ∙ number_told L k x h
+    number_told (more {since} {e} L (other a b c)) k x h = ap (λ y. member k (told y)) (unsent e since b) ∙ number_told L k x h

@@ -1,0 +1,16 @@
+pub mod Cases
+pub mod Books
+pub mod Forms
+pub mod Orders
+pub mod Ledgers
+pub mod Duos
+pub mod Payloads
+pub mod Sounds
+pub mod Turns
+pub mod Messages
+pub mod Requests
+pub mod Runs
+pub mod Askings
+pub mod Keeping
+pub mod Pairs
+pub mod Journals

@@ -1,0 +1,228 @@
+-- What a frame does in each state is one of the things that a call may do.
+use Rattle.std.proofs.Common.{◌≡◌, ℕ, ◌+◌, ◌*◌, ◌≤◌, Bool, true, false, not, ◌&&◌, ◌||◌, eqb, ltb, List, [], ◌∷◌, length, Some, None, Ok, Err, Option, Result, sym, refl, ap, ◌∙◌, subst, arith}
+use Rattle.std.proofs.lemmas.Bool.{ne_eqb, eq-eqb, ltb-false, eqb-true, or_parts, and_parts, not-false, not-true}
+use Rattle.frame.specs.declared.types.Service.{Service}
+use Rattle.frame.specs.declared.types.Service.TheVariants.{Sse, Sch}
+use Rattle.frame.specs.Numbers.{service_code}
+use Rattle.frame.specs.Frames.{Said, act_req, act_res, vfy_req, vfy_res, enc, tmn, error}
+use Rattle.frame.specs.Reading.{Reading, message, refused as unread, fault, reading}
+use Rattle.suite.specs.declared.types.Role.{Role}
+use Rattle.suite.specs.declared.types.Role.TheVariants.{Sender, Recipient}
+use Rattle.suite.specs.declared.types.KeyKind.TheVariants.{LinkKey}
+use Rattle.suite.specs.declared.types.Denial.{Denial}
+use Rattle.suite.specs.Numbers.{role_byte}
+use Rattle.suite.specs.Meanings.{Bytes, Bytes16, value_in}
+use Rattle.suite.specs.Schemes.{Scheme, Lawful}
+use Rattle.suite.specs.Calls.{agreed, derived, opened}
+use Rattle.protocol.specs.declared.states.State.{State}
+use Rattle.protocol.specs.declared.states.State.TheVariants as st
+use Rattle.protocol.specs.declared.outcomes.Confirmation.TheVariants as conf
+use Rattle.protocol.specs.declared.refusals.Refusal.TheVariants as no
+use Rattle.protocol.specs.declared.faults.SuiteFault.{SuiteFault}
+use Rattle.protocol.specs.declared.faults.Cause.{Cause}
+use Rattle.protocol.specs.declared.faults.Cause.TheVariants.{Suite}
+use Rattle.protocol.specs.Models.{Model}
+use Rattle.protocol.specs.Steps.{Step, fails, unless, moved, agree_fault, faulty, agreement, link_value, verified, good, opened_record, is_empty, record_length, sequenced, same_service, in_session, on_act_req, on_act_res, on_vfy_req, on_vfy_res, on_enc, entered, linked, confirmed, check_value, by_state, said_by}
+use Rattle.protocol.specs.Calls.{Call, frame, settle, blocked, admitted, taken}
+use Rattle.histories.specs.Histories.{listed}
+use Rattle.histories.specs.Sessions.{In, CopyIn, copy_of}
+use Rattle.promises.proofs.Cases.{both, clash}
+use Rattle.promises.proofs.Forms.{Base, One, Two, none_live, one_live, two_live, made_one, made_two}
+use Rattle.promises.proofs.Ledgers.{takes, other}
+use Rattle.promises.proofs.Payloads.{opened_is, read_is, fields_bytes}
+use Rattle.promises.proofs.Sounds.{unlinked, in_link, SecretOnly, Sound, at_idle, at_select, at_secret, at_sch, Did, outside, inside, agrees, links}
+use Rattle.promises.proofs.Turns.{silent, unmoved, not_linked, did_refused, did_ended}
+
+-- what follows where the suite finds no fault, by cases
+each : {A : Type 0} (P : Step → Type 0) (m : Model) (r : Result A SuiteFault) (f : A → Step) → ((e : SuiteFault) → P (fails m (Suite e))) → ((x : A) → r ≡ Ok x → P (f x)) → P (unless m r f)
+each P m (Ok x) f g h = h x refl
+each P m (Err e) f g h = g e
+
+-- what the suite answers where no fault is found
+granted : {A : Type 0} (f : Denial → SuiteFault) (r : Result A Denial) (x : A) → faulty f r ≡ Ok x → r ≡ Ok x
+granted f (Ok y) x e = let same : y ≡ x = cc in ap Ok same
+granted f (Err d) x e = absurd (cc)
+
+good_is : (r : Result (Option (ℕ × ℕ × List ℕ)) Denial) (t : ℕ × ℕ × List ℕ) → good r ≡ Ok t → r ≡ Ok (Some t)
+good_is (Ok (Some u)) t e = let same : u ≡ t = cc in ap (λ z. Ok (Some z)) same
+good_is (Ok None) t e = absurd (cc)
+good_is (Err d) t e = absurd (cc)
+
+-- the next serial is told
+next_listed : (n : ℕ) → listed (n + 1) ≡ (n + 1) ∷ []
+next_listed n = let e : eqb (n + 1) 0 ≡ false = ne_eqb (n + 1) 0 (λ x. omega arith) in rw e
+
+module _ (s : Scheme) (law : Lawful s) (c : Call) (sep : ℕ) where
+  -- a step does what a call may do
+  abbrev Does : Model → Step → Type 0
+  Does m step = Did s c m (settle sep step)
+
+  does_fail : (cause : Cause) {m : Model} → Sound s m → Does m (fails m cause)
+  does_fail cause S = did_ended s c conf.Error _ _ refl S
+
+  does_in_session : (service : Service) (step : Step) {m : Model} → Sound s m → (same_service service m.service ≡ true → Does m step) → Does m (in_session m service step)
+  does_in_session service step {m} S f =
+      both (not (same_service service m.service)) (Does m) (λ _. does_fail _ S) (λ e. f (not-false (same_service service m.service) e))
+
+  -- Idle and Select
+  module _ {root : List ℕ} {last newest : ℕ} {kept : Service} {role : Role} {old : List ℕ} {number : ℕ} (base : Base root last newest) where
+    does_act_req : (service : Service) (pid : ℕ) (offer seed : List ℕ) → Bytes seed → Bytes offer → let m = unlinked (none_live root last newest) st.Idle kept role old number 0 in Does m (on_act_req s m service pid offer seed)
+    does_act_req service pid offer seed sb ob =
+        let m = unlinked (none_live root last newest) st.Idle kept role old number 0 in
+        let S : Sound s m = at_idle base in
+        both (not (eqb pid s.pid)) (Does m) (λ _. does_fail _ S)
+        (λ _. each (Does m) m (agreement s m seed offer Recipient) _ (λ e. does_fail _ S)
+        (λ value q.
+        let one = made_one s law root last newest seed offer value 2 base sb ob (granted agree_fault (agreed s m.means seed offer 2) value q) in
+        agrees (at_secret st.EstablishedRecipient (record { low = omega arith; high = omega arith }) one) refl refl (record { newest = refl; live = refl; makes = next_listed newest; destroys = refl }) refl))
+
+    does_act_res : (offer : List ℕ) → Bytes16 old → Bytes offer → let m = unlinked (none_live root last newest) st.Select kept role old number 0 in Does m (on_act_res s m offer)
+    does_act_res offer long ob =
+        let m = unlinked (none_live root last newest) st.Select kept role old number 0 in
+        each (Does m) m (agreement s m old offer Sender) _ (λ e. does_fail _ (at_select base long))
+        (λ value q.
+        let one = made_one s law root last newest old offer value 1 base long.bytes ob (granted agree_fault (agreed s m.means old offer 1) value q) in
+        let self = eq-eqb (newest + 1) (newest + 1) refl in
+        rw self (agrees (at_secret st.EstablishedSender (record { low = omega arith; high = omega arith }) one) refl refl (record { newest = refl; live = refl; makes = next_listed newest; destroys = refl }) refl))
+
+  -- Established
+  module _ (state : State) (k : SecretOnly state) {root : List ℕ} {last : ℕ} {role : Role} {seed : List ℕ} {number : ℕ} (n : ℕ) (v : List ℕ) (one : One root last n v) where
+    does_link : (reply : List ℕ) (r : Result (List ℕ) SuiteFault) → let m = unlinked (one_live root last n v) state Sch role seed number n in link_value s m ≡ r → Does m (unless m (linked s m r) (λ x. moved x.0 conf.Established x.1 reply))
+    does_link reply (Err e) q = does_fail _ (at_secret state k one)
+    does_link reply (Ok value) q =
+        let m = unlinked (one_live root last n v) state Sch role seed number n in
+        let lo : s.first ≤ s.first = omega arith in
+        let below = law.first_below in
+        let hi : s.first ≤ s.final = omega arith in
+        links (at_sch (made_two s law root last n v value one (granted _ (derived s m.means n) value q)) lo hi) (not_linked k) refl (record { newest = refl; live = refl; makes = next_listed n; destroys = refl }) refl refl refl refl
+
+    does_confirm : (to : Service) (reply : List ℕ) → let m = unlinked (one_live root last n v) state to role seed number n in Does m (unless m (confirmed s m to) (λ x. moved x.0 conf.Established x.1 reply))
+    does_confirm Sse reply = outside (at_secret st.ConfirmedSse (record { low = omega arith; high = omega arith }) one) refl (not_linked k) refl (silent refl refl refl)
+    does_confirm Sch reply = does_link reply _ refl
+
+    does_vfy_res : (service : Service) (check : List ℕ) → let m = unlinked (one_live root last n v) state service role seed number n in Does m (on_vfy_res s m check)
+    does_vfy_res service check =
+        let m = unlinked (one_live root last n v) state service role seed number n in
+        each (Does m) m (verified s m Recipient check) _ (λ e. does_fail _ (at_secret state k one))
+        (λ _ _. does_confirm service [])
+
+    does_vfy_req : (service : Service) (check : List ℕ) → let m = unlinked (one_live root last n v) state service role seed number n in Does m (on_vfy_req s m check)
+    does_vfy_req service check =
+        let m = unlinked (one_live root last n v) state service role seed number n in
+        each (Does m) m (verified s m Sender check) _ (λ e. does_fail _ (at_secret state k one))
+        (λ _ _. each (Does m) m (check_value s m Recipient) _ (λ e. does_fail _ (at_secret state k one))
+        (λ own _. does_confirm service (said_by service (vfy_res own))))
+
+-- a record in Confirmed_SCH with nothing held; copy: it came in the frame with SEP 14 and this payload
+module _ (s : Scheme) (law : Lawful s) (bytes seed : List ℕ) (room sep : ℕ) {root : List ℕ} {last n : ℕ} {v w : List ℕ} (role : Role) (old : List ℕ) {number : ℕ} (two : Two root last n v w) (lo : s.first ≤ number) (hi : number ≤ s.final) (payload : List ℕ) (copy : (copies : List (List ℕ)) → CopyIn copies (frame bytes seed room) → In (0x14 ∷ payload) copies) where
+  abbrev Takes : Step → Type 0
+  Takes step = Does s law (frame bytes seed room) sep (in_link (two_live root last n v w) role old number [] n) step
+
+  does_enter : (who num : ℕ) (plain : List ℕ) → let m = in_link (two_live root last n v w) role old number [] n in ((x : List ℕ) → value_in m.means.live LinkKey m.link ≡ Some x → s.open_of root (n + 1) x payload ≡ Some (who, num, plain)) → Takes (entered m plain (sequenced s m (who, num, length plain)))
+  does_enter who num plain opens =
+      let m = in_link (two_live root last n v w) role old number [] n in
+      let S : Sound s m = at_sch two lo hi in
+      let P : Result Bool Cause → Type 0 = λ r. Takes (entered m plain r) in
+      let bad = λ (cause : Cause). does_fail s law (frame bytes seed room) sep cause S in
+      both (not (record_length (length plain))) P (λ _. bad _)
+      (λ long. both (eqb num number) P (λ _. inside S refl refl refl refl refl (silent refl refl refl) (unmoved number) (λ x e. other refl refl refl))
+      (λ _. both (eqb who (role_byte role)) P (λ _. bad _)
+      (λ theirs. both (not (eqb num (number + 1)) || ltb s.final num) P (λ _. bad _)
+      (λ e.
+      let full = and_parts (not (is_empty plain)) (not (ltb 200 (length plain))) (not-false (record_length (length plain)) long) in
+      let parts = or_parts (not (eqb num (number + 1))) (ltb s.final num) e in
+      let same : num ≡ number + 1 = eqb-true num (number + 1) (not-false (eqb num (number + 1)) parts.0) in
+      let below : num ≤ s.final = ltb-false s.final num parts.1 in
+      let lo' : s.first ≤ number + 1 = omega arith in
+      let hi' : number + 1 ≤ s.final = omega arith in
+      let up : number + 1 ≡ (number + 0) + 1 = omega arith in
+      inside (at_sch two lo' hi') refl refl refl refl refl (silent refl refl refl) up
+      (λ x q. takes who payload plain refl refl refl copy (opens x q ∙ ap (λ z. Some (who, z, plain)) same) theirs (not-true (is_empty plain) full.0))))))
+
+  does_enc : let m = in_link (two_live root last n v w) role old number [] n in Takes (on_enc s m payload)
+  does_enc =
+      let m = in_link (two_live root last n v w) role old number [] n in
+      each Takes m (opened_record s m payload) _ (λ e. does_fail s law (frame bytes seed room) sep _ (at_sch two lo hi))
+      (λ t q. does_enter t.0 t.1 t.2 (λ x e. opened_is s m.means m.link payload 255 x t e (good_is (opened s m.means m.link payload 255) t q)))
+
+module _ (s : Scheme) (law : Lawful s) (bytes seed : List ℕ) (room sep : ℕ) (given : Bytes bytes × Bytes seed) (service : Service) where
+  abbrev Hears : Model → Said → Type 0
+  Hears m said = Does s law (frame bytes seed room) sep m (by_state s m seed service m.state said)
+
+  abbrev Read : Said → Type 0
+  Read said = reading bytes ≡ message (record { service = service; said = said })
+
+  hears_idle : (said : Said) → Read said → {root : List ℕ} {last newest : ℕ} {kept : Service} {role : Role} {old : List ℕ} {number : ℕ} → Base root last newest → Hears (unlinked (none_live root last newest) st.Idle kept role old number 0) said
+  hears_idle (error p) r base = did_ended s _ conf.Error _ _ refl (at_idle base)
+  hears_idle (act_req pid offer) r base = does_act_req s law _ sep base service pid offer seed given.1 (fields_bytes bytes _ r given.0).1
+  hears_idle said r base = does_fail s law _ sep _ (at_idle base)
+
+  hears_select : (said : Said) → Read said → {root : List ℕ} {last newest : ℕ} {kept : Service} {role : Role} {old : List ℕ} {number : ℕ} → Base root last newest → Bytes16 old → Hears (unlinked (none_live root last newest) st.Select kept role old number 0) said
+  hears_select (error p) r base long = did_ended s _ conf.Error _ _ refl (at_select base long)
+  hears_select (act_res offer) r base long = does_in_session s law _ sep service _ (at_select base long) (λ _. does_act_res s law _ sep base offer long (fields_bytes bytes _ r given.0))
+  hears_select said r base long = does_fail s law _ sep _ (at_select base long)
+
+  module _ {root : List ℕ} {last n : ℕ} {v : List ℕ} {kept : Service} {role : Role} {old : List ℕ} {number : ℕ} (one : One root last n v) where
+    hears_sender : (k : SecretOnly st.EstablishedSender) (said : Said) → Hears (unlinked (one_live root last n v) st.EstablishedSender kept role old number n) said
+    hears_sender k (error p) = did_ended s _ conf.Error _ _ refl (at_secret _ k one)
+    hears_sender k (vfy_res check) = does_in_session s law _ sep service _ (at_secret _ k one) (λ _. does_vfy_res s law _ sep _ k n v one _ check)
+    hears_sender k said = does_fail s law _ sep _ (at_secret _ k one)
+
+    hears_recipient : (k : SecretOnly st.EstablishedRecipient) (said : Said) → Hears (unlinked (one_live root last n v) st.EstablishedRecipient kept role old number n) said
+    hears_recipient k (error p) = did_ended s _ conf.Error _ _ refl (at_secret _ k one)
+    hears_recipient k (vfy_req check) = does_in_session s law _ sep service _ (at_secret _ k one) (λ _. does_vfy_req s law _ sep _ k n v one _ check)
+    hears_recipient k said = does_fail s law _ sep _ (at_secret _ k one)
+
+    hears_sse : (k : SecretOnly st.ConfirmedSse) (said : Said) → Hears (unlinked (one_live root last n v) st.ConfirmedSse kept role old number n) said
+    hears_sse k (error p) = did_ended s _ conf.Error _ _ refl (at_secret _ k one)
+    hears_sse k (tmn p) = does_in_session s law _ sep service _ (at_secret _ k one) (λ _. did_ended s _ conf.Terminated _ _ refl (at_secret _ k one))
+    hears_sse k said = does_fail s law _ sep _ (at_secret _ k one)
+
+    hears_secret : (state : State) → SecretOnly state → (said : Said) → Hears (unlinked (one_live root last n v) state kept role old number n) said
+    hears_secret st.Idle k said = absurd (omega arith)
+    hears_secret st.Select k said = absurd (omega arith)
+    hears_secret st.EstablishedSender k said = hears_sender k said
+    hears_secret st.EstablishedRecipient k said = hears_recipient k said
+    hears_secret st.ConfirmedSse k said = hears_sse k said
+    hears_secret st.ConfirmedSch k said = absurd (omega arith)
+
+  -- the bytes of a record of a link session
+  record_bytes : (payload : List ℕ) → Read (enc payload) → same_service service Sch ≡ true → 0x14 ∷ payload ≡ bytes
+  record_bytes payload r same =
+      let code : service_code service ≡ 1 = eqb-true (service_code service) 1 same in
+      ap (λ k. (k * 16 + 4) ∷ payload) (sym code) ∙ read_is bytes _ r
+
+  -- a record is taken where nothing is held; of the other service it is a fault
+  hears_enc : (payload : List ℕ) → Read (enc payload) → {root : List ℕ} {last n : ℕ} {v w : List ℕ} {role : Role} {old : List ℕ} {number : ℕ} (held : List ℕ) → Two root last n v w → s.first ≤ number → number ≤ s.final
+      → let m = in_link (two_live root last n v w) role old number held n in blocked m (record { service = service; said = enc payload }) ≡ false → Hears m (enc payload)
+  hears_enc payload r (x ∷ held) two lo hi free =
+      does_in_session s law _ sep service _ (at_sch two lo hi)
+      (λ same.
+      let some : eqb (length (x ∷ held)) 0 ≡ false = ne_eqb (length (x ∷ held)) 0 (λ e. omega arith) in
+      let full : (same_service service Sch && not (is_empty (x ∷ held))) ≡ true = rw (same, some) in
+      clash _ free full)
+  hears_enc payload r {role} {old} [] two lo hi free =
+      does_in_session s law _ sep service _ (at_sch two lo hi)
+      (λ same. does_enc s law bytes seed room sep role old two lo hi payload (λ copies f. subst (copy_of copies) (sym (record_bytes payload r same)) f refl))
+
+  hears_link : (said : Said) → Read said → {root : List ℕ} {last n : ℕ} {v w : List ℕ} {role : Role} {old : List ℕ} {number : ℕ} (held : List ℕ) → Two root last n v w → s.first ≤ number → number ≤ s.final
+      → let m = in_link (two_live root last n v w) role old number held n in blocked m (record { service = service; said = said }) ≡ false → Hears m said
+  hears_link (error p) r held two lo hi free = did_ended s _ conf.Error _ _ refl (at_sch two lo hi)
+  hears_link (tmn p) r held two lo hi free = does_in_session s law _ sep service _ (at_sch two lo hi) (λ _. did_ended s _ conf.Terminated _ _ refl (at_sch two lo hi))
+  hears_link (enc payload) r held two lo hi free = hears_enc payload r held two lo hi free
+  hears_link said r held two lo hi free = does_fail s law _ sep _ (at_sch two lo hi)
+
+  hears : (said : Said) → Read said → {m : Model} → Sound s m → blocked m (record { service = service; said = said }) ≡ false → Hears m said
+  hears said r (at_idle base) free = hears_idle said r base
+  hears said r (at_select base long) free = hears_select said r base long
+  hears said r (at_secret state k one) free = hears_secret one state k said
+  hears said r (at_sch {held} two lo hi) free = hears_link said r held two lo hi free
+
+-- a frame that was read, or not
+pub did_taken : (s : Scheme) → Lawful s → (bytes seed : List ℕ) (room sep : ℕ) → Bytes bytes × Bytes seed → (r : Reading) → reading bytes ≡ r → {m : Model} → Sound s m → Did s (frame bytes seed room) m (taken s m seed sep (admitted m r))
+did_taken s law bytes seed room sep given (unread number) e S = did_refused s _ no.FrameLength S
+did_taken s law bytes seed room sep given (fault code) e S = does_fail s law _ sep _ S
+did_taken s law bytes seed room sep given (message p) e {m} S =
+    both (blocked m p) (λ a. Did s (frame bytes seed room) m (taken s m seed sep a))
+    (λ _. did_refused s _ no.DataHeld S)
+    (λ free. hears s law bytes seed room sep given p.service p.said e S free)

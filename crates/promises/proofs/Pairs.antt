@@ -1,0 +1,143 @@
+-- Two link sessions with equal link keys hand out in order.
+use Rattle.std.proofs.Common.{◌≡◌, ℕ, ◌+◌, Bool, true, false, cond, not, ltb, leb, List, [], ◌∷◌, ◌++◌, length, Ok, Err, Result, sym, refl, ap, ◌∙◌, subst, append-nil}
+use Rattle.suite.specs.declared.types.KeyKind.TheVariants.{LinkKey}
+use Rattle.suite.specs.declared.types.Denial.{Denial}
+use Rattle.suite.specs.Numbers.{role_byte}
+use Rattle.suite.specs.Meanings.{Bytes16, value_in}
+use Rattle.suite.specs.Schemes.{Scheme, Lawful, ok_role}
+use Rattle.suite.specs.Calls.{no_room, sealed}
+use Rattle.protocol.specs.Models.{Model}
+use Rattle.protocol.specs.Steps.{is_empty, record_length}
+use Rattle.protocol.specs.Calls.{Turn, Call, invoke, send, retrieve_data, retrieve_secret, terminate, frame, release, turn, sending}
+use Rattle.histories.specs.Histories.{Entry, History, after, entered, destroyed_in, member, confirms, given, hands, handing, handed, sent, sent_in}
+use Rattle.histories.specs.Sessions.{InSession, LinkSession, running, over, last_entry, root_of, serial_of, sealed_by, encs, enc_in, numbers, OnlyCopies, Part, Begins, NoneTwice}
+use Rattle.promises.specs.Promises.{Ordered}
+use Rattle.promises.proofs.Cases.{both, clash}
+use Rattle.promises.proofs.Forms.{value_formed}
+use Rattle.promises.proofs.Ledgers.{End, Ledger}
+use Rattle.promises.proofs.Duos.{in_order, no_gap}
+use Rattle.promises.proofs.Sounds.{has_link, end_of}
+use Rattle.promises.proofs.Runs.{holds}
+use Rattle.promises.proofs.Askings.{role_ok, asks_well}
+
+-- an end and its ledger, from the run that leads to it
+record Ended (s : Scheme) (value root : List ℕ) (serial : ℕ) (since : History) : Type 0 where
+  pub number : ℕ
+  pub held : List ℕ
+  pub role : ℕ
+  pub ok : ok_role role ≡ true
+  pub root16 : Bytes16 root
+  pub value16 : Bytes16 value
+  pub ledger : Ledger s value (record { root = root; serial = serial; role = role }) since number held
+
+ended : (s : Scheme) → Lawful s → (value : List ℕ) (since : History) (x : InSession s value since) → Ended s value (after s x.start x.calls).means.root x.serial since
+ended s law value since x =
+    let m = after s x.start x.calls in
+    let H = holds s law x.start x.fresh x.calls x.bytes in
+    let fits = H.all x.serial since x.runs in
+    let formed = (asks_well s law H.sound).formed in
+    let told : Ledger s value (end_of m) since m.number m.held = fits.ledger value (sym (ap (λ z. value_in m.means.live LinkKey z) fits.key) ∙ x.key) in
+    record {
+      number = m.number;
+      held = m.held;
+      role = role_byte m.role;
+      ok = role_ok m.role;
+      root16 = formed.root;
+      value16 = value_formed m.means.live LinkKey x.serial value formed.values x.key;
+      ledger = subst (λ k. Ledger s value (record { root = m.means.root; serial = k; role = role_byte m.role }) since m.number m.held) (sym fits.key) told;
+    }
+
+-- a call that destroys no key
+abbrev Spares : Turn → Type 0
+Spares t = destroyed_in t.answer ≡ []
+
+sending_spares : (m : Model) (r : Result (List ℕ) Denial) → Spares (sending m r)
+sending_spares m (Ok p) = refl
+sending_spares m (Err e) = refl
+
+send_spares : (s : Scheme) (m : Model) (plain : List ℕ) (room : ℕ) → Spares (turn s m (send plain room))
+send_spares s m plain room =
+    both (no_room room) Spares (λ _. refl)
+    (λ _. both (not (has_link m)) Spares (λ _. refl)
+    (λ _. both (not (record_length (length plain))) Spares (λ _. refl)
+    (λ _. both (leb s.final m.number) Spares (λ _. refl)
+    (λ _. sending_spares m (sealed s m.means m.link (role_byte m.role) (m.number + 1) plain 255)))))
+
+data_spares : (s : Scheme) (m : Model) (room : ℕ) → Spares (turn s m (retrieve_data room))
+data_spares s m room =
+    both (not (has_link m)) Spares (λ _. refl)
+    (λ _. both (is_empty m.held) Spares (λ _. refl)
+    (λ _. both (ltb room (length m.held)) Spares (λ _. refl) (λ _. refl)))
+
+-- a call that sends nothing and hands out nothing
+record Plain (e : Entry) : Type 0 where
+  pub unsent : sent_in e ≡ []
+  pub unsealed : enc_in e ≡ []
+  pub unhanded : handing e ≡ false
+
+no_item : (b : Bool) → ◌≡◌ {A = List (List ℕ)} (cond b [] []) []
+no_item true = refl
+no_item false = refl
+
+plain_call : (c : Call) (t : Turn) → given c ≡ [] → sealed_by t.reply c ≡ [] → hands t.answer c ≡ false → Plain (entered c t)
+plain_call c t g w h = record {
+  unsent = ap (λ z. cond (confirms 2 t.answer) z []) g ∙ no_item (confirms 2 t.answer);
+  unsealed = ap (λ z. cond (confirms 2 t.answer) z []) w ∙ no_item (confirms 2 t.answer);
+  unhanded = h;
+}
+
+spared : {X : Type 0} (n : ℕ) (t : Turn) → Spares t → member n (destroyed_in t.answer) ≡ true → X
+spared n t e h = clash false refl (sym (ap (member n) e) ∙ h)
+
+-- such is the last call of a session
+last_plain : (s : Scheme) (m : Model) (c : Call) (n : ℕ) → member n (destroyed_in (turn s m c).answer) ≡ true → Plain (entered c (turn s m c))
+last_plain s m (invoke service pid seed room) n d = let c = invoke service pid seed room in plain_call c (turn s m c) refl refl refl
+last_plain s m (send plain room) n d = spared n (turn s m (send plain room)) (send_spares s m plain room) d
+last_plain s m (retrieve_data room) n d = spared n (turn s m (retrieve_data room)) (data_spares s m room) d
+last_plain s m (retrieve_secret room) n d = let c = retrieve_secret room in plain_call c (turn s m c) refl refl refl
+last_plain s m (terminate room) n d = let c = terminate room in plain_call c (turn s m c) refl refl refl
+last_plain s m (frame bytes seed room) n d = let c = frame bytes seed room in plain_call c (turn s m c) refl refl refl
+last_plain s m release n d = plain_call release (turn s m release) refl refl refl
+
+-- a session up to its last call, where it is over
+record Core (s : Scheme) (value root : List ℕ) (serial : ℕ) (mine : History) : Type 0 where
+  pub since : History
+  pub end : Ended s value root serial since
+  pub sents : sent since ≡ sent mine
+  pub sealeds : encs since ≡ encs mine
+  pub handeds : handed since ≡ handed mine
+  pub only : (copies : List (List ℕ)) → OnlyCopies copies mine → OnlyCopies copies since
+
+core : (s : Scheme) → Lawful s → (value : List ℕ) {mine : History} (x : LinkSession s value mine) → Core s value (root_of x) (serial_of x) mine
+core s law value (running {since} x) = record { since = since; end = ended s law value since x; sents = refl; sealeds = refl; handeds = refl; only = λ copies o. o }
+core s law value (over {since} x c d) =
+    let e = last_entry x c in
+    let p = last_plain s (after s x.start x.calls) c x.serial d in
+    record {
+      since = since;
+      end = ended s law value since x;
+      sents = sym (ap (λ z. sent since ++ z) p.unsent ∙ append-nil (sent since));
+      sealeds = sym (ap (λ z. encs since ++ z) p.unsealed ∙ append-nil (encs since));
+      handeds = sym (ap (λ b. handed since ++ cond b (e.written ∷ []) []) p.unhanded ∙ append-nil (handed since));
+      only = λ copies o. o.1;
+    }
+
+-- what Ordered says of two histories, by what was sealed, handed out and sent
+abbrev Follows : (s t : Scheme) → List ℕ → List ℕ → ℕ → List ℕ → ℕ → List (List ℕ) → List (List ℕ) → List (List ℕ) → List (List ℕ) → Type 0
+Follows s t value root serial root' serial' mine theirs out told = Part out told × (NoneTwice (numbers s root serial value mine) (numbers t root' serial' value theirs) → Begins out told)
+
+module _ (s t : Scheme) (value root : List ℕ) (serial : ℕ) (root' : List ℕ) (serial' : ℕ) where
+  same_lists : {a a' b b' h h' k k' : List (List ℕ)} → a ≡ a' → b ≡ b' → h ≡ h' → k ≡ k' → Follows s t value root serial root' serial' a b h k → Follows s t value root serial root' serial' a' b' h' k'
+  same_lists p q r u f = rw (← p, ← q, ← r, ← u) f
+
+pub ordered : Ordered
+ordered s t law law' kind value mine theirs one other only =
+    let x = core s law value one in
+    let y = core t law' value other in
+    let z : End = record { root = root_of one; serial = serial_of one; role = x.end.role } in
+    let z' : End = record { root = root_of other; serial = serial_of other; role = y.end.role } in
+    let all : encs x.since ++ encs y.since ≡ encs mine ++ encs theirs = ap (λ c. c ++ encs y.since) x.sealeds ∙ ap (λ c. encs mine ++ c) y.sealeds in
+    let only' : OnlyCopies (encs x.since ++ encs y.since) x.since = subst (λ c. OnlyCopies c x.since) (sym all) (x.only (encs mine ++ encs theirs) only) in
+    let front = in_order s t law law' kind value z z' x.end.ok y.end.ok x.end.root16 y.end.root16 x.end.value16 x.end.ledger y.end.ledger only' in
+    let whole = no_gap s t law law' kind value z z' x.end.ok y.end.ok x.end.root16 y.end.root16 x.end.value16 x.end.ledger y.end.ledger only' in
+    same_lists s t value (root_of one) (serial_of one) (root_of other) (serial_of other) x.sealeds y.sealeds x.handeds y.sents (front, whole)

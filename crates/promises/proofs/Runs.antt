@@ -1,0 +1,135 @@
+-- What holds after every list of calls.
+use Rattle.std.proofs.Common.{◌≡◌, ℕ, ◌+◌, ◌<◌, true, false, List, [], ◌∷◌, ◌++◌, length, Some, sym, refl, ap, ◌∙◌, subst, arith, length-append}
+use Rattle.std.specs.List.{AllByRecursion}
+use Rattle.suite.specs.declared.types.KeyKind.TheVariants.{LinkKey}
+use Rattle.suite.specs.Meanings.{value_in}
+use Rattle.suite.specs.Schemes.{Scheme, Lawful}
+use Rattle.protocol.specs.declared.states.State.TheVariants.{ConfirmedSch}
+use Rattle.protocol.specs.Models.{Model}
+use Rattle.protocol.specs.Calls.{Turn, Call, turn, in_state}
+use Rattle.histories.specs.Histories.{Entry, History, Fresh, GivenBytes, after, history, entered, made, destroyed, made_in, destroyed_in, started_by, member, Runs, starts, goes_on, Running, sent, taken, sent_in, taken_in}
+use Rattle.promises.specs.Promises.{serials}
+use Rattle.promises.proofs.Cases.{clash}
+use Rattle.promises.proofs.Books.{Books, no_books, books_made, books_same, books_cleared, Clears}
+use Rattle.promises.proofs.Forms.{base_of}
+use Rattle.promises.proofs.Ledgers.{End, Act, Ledger, start, more}
+use Rattle.promises.proofs.Sounds.{Sound, at_idle, has_link, end_of, Silent, MakesNext, Did, outside, inside, agrees, links, ends}
+use Rattle.promises.proofs.Requests.{did}
+
+-- what holds of a session that runs
+pub record Fits (s : Scheme) (m : Model) (n : ℕ) (since : History) : Type 0 where
+  pub linked : has_link m ≡ true
+  pub key : n ≡ m.link
+  pub number : m.number ≡ (s.first + length (sent since)) + length (taken since)
+  pub ledger : (w : List ℕ) → value_in m.means.live LinkKey m.link ≡ Some w → Ledger s w (end_of m) since m.number m.held
+
+-- what holds after a history
+pub record Holds (s : Scheme) (m : Model) (h : History) : Type 0 where
+  pub sound : Sound s m
+  pub books : Books m.means.newest (serials m.means) (made h) (destroyed h)
+  pub all : (n : ℕ) (since : History) → Runs n h since → Fits s m n since
+  pub some : has_link m ≡ true → Running h
+
+zero_start : {X : Type 0} (n k : ℕ) → 0 < n → k ≡ n → k ≡ 0 → X
+zero_start n k p e z = absurd (omega arith)
+
+counted : (f a b m m' : ℕ) (xs ys us vs : List (List ℕ)) → length ys ≡ a → length vs ≡ b → m ≡ (f + length xs) + length us → m' ≡ (m + a) + b → m' ≡ (f + length (xs ++ ys)) + length (us ++ vs)
+counted f a b m m' xs ys us vs q t e e' = simp length-append (omega arith)
+
+module _ (s : Scheme) (c : Call) {m : Model} {h : History} (H : Holds s m h) (t : Turn) where
+  abbrev now : Entry
+  now = entered c t
+
+  none_ran : has_link m ≡ false → {X : Type 0} → (n : ℕ) (since : History) → Runs n h since → X
+  none_ran o n since r = clash (has_link m) o (H.all n since r).linked
+
+  -- where no session ran and none starts, none runs
+  fits_none : has_link m ≡ false → started_by t.answer ≡ 0 → (n : ℕ) (since : History) → Runs n (now ∷ h) since → Fits s t.model n since
+  fits_none o z n since (starts pos q) = zero_start n _ pos q z
+  fits_none o z n since (goes_on r k) = none_ran o n _ r
+
+  -- a session goes on by one act
+  ledger_inside : {since : History} → t.model.means ≡ m.means → t.model.link ≡ m.link → end_of t.model ≡ end_of m
+      → ((w : List ℕ) → value_in m.means.live LinkKey m.link ≡ Some w → Act s w (end_of m) now m.number m.held t.model.number t.model.held)
+      → ((w : List ℕ) → value_in m.means.live LinkKey m.link ≡ Some w → Ledger s w (end_of m) since m.number m.held)
+      → (w : List ℕ) → value_in t.model.means.live LinkKey t.model.link ≡ Some w → Ledger s w (end_of t.model) (now ∷ since) t.model.number t.model.held
+  ledger_inside {since} em el ee act was w q =
+      let q' : value_in m.means.live LinkKey m.link ≡ Some w = sym (ap (λ z. value_in z.live LinkKey t.model.link) em ∙ ap (λ z. value_in m.means.live LinkKey z) el) ∙ q in
+      let new : Ledger s w (end_of m) (now ∷ since) t.model.number t.model.held = more (was w q') (act w q') in
+      subst (λ (z : End). Ledger s w z (now ∷ since) t.model.number t.model.held) (sym ee) new
+
+  fits_inside : has_link t.model ≡ true → t.model.means ≡ m.means → t.model.link ≡ m.link → end_of t.model ≡ end_of m → started_by t.answer ≡ 0 → t.model.number ≡ (m.number + length (sent_in now)) + length (taken_in now)
+      → ((w : List ℕ) → value_in m.means.live LinkKey m.link ≡ Some w → Act s w (end_of m) now m.number m.held t.model.number t.model.held)
+      → (n : ℕ) (since : History) → Runs n (now ∷ h) since → Fits s t.model n since
+  fits_inside a em el ee z num act n since (starts pos q) = zero_start n _ pos q z
+  fits_inside a em el ee z num act n since (goes_on {since = before} r k) =
+      let was = H.all n before r in
+      record {
+        linked = a;
+        key = was.key ∙ sym el;
+        number = counted s.first (length (sent_in now)) (length (taken_in now)) m.number t.model.number (sent before) (sent_in now) (taken before) (taken_in now) refl refl was.number num;
+        ledger = ledger_inside em el ee act was.ledger;
+      }
+
+  some_inside : destroyed_in t.answer ≡ [] → Running h → Running (now ∷ h)
+  some_inside d (n, (since, r)) = (n, (now ∷ since, goes_on r (ap (member n) d)))
+
+  -- a session starts
+  fits_link : has_link m ≡ false → has_link t.model ≡ true → started_by t.answer ≡ m.means.newest + 1 → t.model.link ≡ m.means.newest + 1 → t.model.number ≡ s.first → t.model.held ≡ [] → (n : ℕ) (since : History) → Runs n (now ∷ h) since → Fits s t.model n since
+  fits_link o a z l num nh n since (starts pos q) = record {
+    linked = a;
+    key = sym q ∙ z ∙ sym l;
+    number = omega arith;
+    ledger = λ w k. subst (λ j. Ledger s w (end_of t.model) [] j t.model.held) (sym num) (subst (λ j. Ledger s w (end_of t.model) [] s.first j) (sym nh) start);
+  }
+  fits_link o a z l num nh n since (goes_on r k) = none_ran o n _ r
+
+  -- the session that ran is over
+  fits_ends : started_by t.answer ≡ 0 → (has_link m ≡ true → member m.link (destroyed_in t.answer) ≡ true) → (n : ℕ) (since : History) → Runs n (now ∷ h) since → Fits s t.model n since
+  fits_ends z d n since (starts pos q) = zero_start n _ pos q z
+  fits_ends z d n since (goes_on {since = before} r k) =
+      let was = H.all n before r in
+      clash (member n (destroyed_in t.answer)) k (ap (λ j. member j (destroyed_in t.answer)) was.key ∙ d was.linked)
+
+  abbrev NextBooks : Type 0
+  NextBooks = Books t.model.means.newest (serials t.model.means) (made h ++ made_in t.answer) (destroyed h ++ destroyed_in t.answer)
+
+  books_silent : t.model.means ≡ m.means → Silent t.answer → NextBooks
+  books_silent em q =
+      let k = q.makes in
+      let d = q.destroys in
+      rw (em, k, d) (books_same _ _ _ _ H.books)
+
+  books_next : MakesNext m.means t.model.means t.answer → NextBooks
+  books_next q =
+      let new = q.newest in
+      let live = q.live in
+      let k = q.makes in
+      let d = q.destroys in
+      rw (new, live, k, d) (books_made _ _ _ _ H.books)
+
+  books_ended : t.model.means.newest ≡ m.means.newest → serials t.model.means ≡ [] → made_in t.answer ≡ [] → Clears (serials m.means) (destroyed_in t.answer) → NextBooks
+  books_ended new live k cl = rw (new, live, k) (books_cleared _ _ _ cl H.books)
+
+  held_on : Did s c m t → Holds s t.model (now ∷ h)
+  held_on (outside S em o o' q) = record { sound = S; books = books_silent em q; all = fits_none o q.begins; some = λ x. clash _ o' x }
+  held_on (inside S em i i' el ee q num act) = record { sound = S; books = books_silent em q; all = fits_inside i' em el ee q.begins num act; some = λ x. some_inside q.destroys (H.some i) }
+  held_on (agrees S o o' q z) = record { sound = S; books = books_next q; all = fits_none o z; some = λ x. clash _ o' x }
+  held_on (links S o i q z l num nh) = record { sound = S; books = books_next q; all = fits_link o i z l num nh; some = λ x. (m.means.newest + 1, ([], starts (omega arith) z)) }
+  held_on (ends S o new live k z cl d) = record { sound = S; books = books_ended new live k cl; all = fits_ends z d; some = λ x. clash _ o x }
+
+not_yet : {X : Type 0} {n : ℕ} {since : History} → Runs n [] since → X
+not_yet = elim [ ]
+
+module _ (s : Scheme) (law : Lawful s) (m : Model) where
+  sound_first : Fresh m → Sound s m
+  sound_first f = rw (f.no_live, f.idle, f.none_held, f.no_secret, f.no_link) (at_idle (base_of f.formed))
+
+  holds_first : Fresh m → Holds s m []
+  holds_first f =
+      let books : Books m.means.newest (serials m.means) [] [] = rw f.no_live (no_books _) in
+      record { sound = sound_first f; books = books; all = λ n since r. not_yet r; some = λ x. clash (has_link m) (ap (λ z. in_state (record m { state = z }) ConfirmedSch) f.idle) x }
+
+  pub holds : Fresh m → (calls : List Call) → AllByRecursion GivenBytes calls → Holds s (after s m calls) (history s m calls)
+  holds f [] given = holds_first f
+  holds f (c ∷ before) given = held_on s c (holds f before given.1) (turn s (after s m before) c) (did s law c given.0 (holds f before given.1).sound)

@@ -1,0 +1,113 @@
+-- What every run of calls keeps, and what two link sessions under equal link keys keep.
+use Rattle.std.specs.Prelude.{◌≡◌, ◌≢◌, ℕ, ◌+◌, ◌≤◌, Bool, true, false, List, [], ◌∷◌, ◌++◌, map, length, Err, Result}
+use Rattle.std.specs.List.{AllByRecursion}
+use Rattle.suite.specs.declared.types.Role.{Role}
+use Rattle.suite.specs.declared.types.KeyKind.TheVariants.{SharedSecret}
+use Rattle.suite.specs.declared.types.Denial.{Denial}
+use Rattle.suite.specs.declared.types.Denial.TheVariants.{Unfit, Unknown}
+use Rattle.suite.specs.Numbers.{role_byte}
+use Rattle.suite.specs.Meanings.{Meaning, WellFormed}
+use Rattle.suite.specs.Schemes.{Scheme, Lawful, OneKind}
+use Rattle.suite.specs.Calls.{adding, offered, agreed, derived, checked, revealed, sealed, opened, destroy_answer}
+use Rattle.protocol.specs.declared.states.State.{State}
+use Rattle.protocol.specs.declared.states.State.TheVariants.{Idle, Select, EstablishedSender, EstablishedRecipient, ConfirmedSse, ConfirmedSch}
+use Rattle.protocol.specs.Models.{Model, without_key}
+use Rattle.protocol.specs.Calls.{Call}
+use Rattle.histories.specs.Histories.{History, Fresh, GivenBytes, after, history, made, destroyed, less, Distinct, Runs, Running, sent, taken, handing, handed}
+use Rattle.histories.specs.Sessions.{encs, numbers, OnlyCopies, Part, Begins, LinkSession, root_of, serial_of, NoneTwice}
+
+-- Keys.
+
+-- the serials of the live keys, the oldest first
+abbrev pub serials : Meaning → List ℕ
+serials m = map (λ k. k.serial) m.live
+
+-- the keys live in the suite are exactly those reported made and not reported destroyed
+pub record KeysAccounted (m : Model) (h : History) : Type 0 where
+  pub live : serials m.means ≡ less (made h) (destroyed h)
+  -- no serial is reported made twice, or destroyed twice, or destroyed and never made
+  pub made_once : Distinct (made h)
+  pub destroyed_once : Distinct (destroyed h)
+  pub destroyed_made : less (destroyed h) (made h) ≡ []
+  pub none_idle : m.state ≡ Idle → m.means.live ≡ []
+
+-- Link sessions.
+
+-- whenever a call handed data out, a link session ran
+abbrev pub HandedInSession : History → Type 0
+HandedInSession [] = Unit {0}
+HandedInSession (e ∷ h) = (handing e ≡ true → Running h) × HandedInSession h
+
+-- the state is Confirmed_SCH exactly while a link session runs
+pub record SessionsKept (s : Scheme) (m : Model) (h : History) : Type 0 where
+  pub runs : m.state ≡ ConfirmedSch → Running h
+  pub confirmed : (n : ℕ) (since : History) → Runs n h since → m.state ≡ ConfirmedSch
+  -- there the number is the first, and one more for each record sent or taken in since the start; it never passes the last
+  pub number : (n : ℕ) (since : History) → Runs n h since → m.number ≡ s.first + length (sent since) + length (taken since)
+  pub last : m.state ≡ ConfirmedSch → m.number ≤ s.final
+  pub handed : HandedInSession h
+
+-- What the suite is asked.
+
+-- an answer that is no denial as unfit or unknown
+pub record WellAsked {A : Type 0} (answer : Result A Denial) : Type 0 where
+  pub fit : answer ≢ Err Unfit
+  pub known : answer ≢ Err Unknown
+
+-- a key that can be asked for check values, for a link key and for its value
+pub record ServesAsSecret (s : Scheme) (means : Meaning) (key : ℕ) : Type 0 where
+  pub check : (role : Role) (room : ℕ) → 255 ≤ room → WellAsked (checked s means key (role_byte role) room)
+  pub link : WellAsked (derived s means key)
+  pub value : (room : ℕ) → 16 ≤ room → WellAsked (revealed means key room)
+
+-- a key that can be asked to seal up to 200 bytes under any number up to the last, and to open any payload that a frame has room for
+pub record ServesAsLink (s : Scheme) (means : Meaning) (key : ℕ) : Type 0 where
+  pub seal : (role : Role) (n : ℕ) (plain : List ℕ) (room : ℕ) → length plain ≤ 200 → n ≤ s.final → 255 ≤ room → WellAsked (sealed s means key (role_byte role) n plain room)
+  pub unseal : (payload : List ℕ) (room : ℕ) → length payload ≤ 254 → 255 ≤ room → WellAsked (opened s means key payload room)
+
+-- the states from the agreement on
+abbrev pub has_secret : State → Bool
+has_secret Idle = false
+has_secret Select = false
+has_secret EstablishedSender = true
+has_secret EstablishedRecipient = true
+has_secret ConfirmedSse = true
+has_secret ConfirmedSch = true
+
+-- whatever a call asks of the suite, in the state that the entity is in, is not denied as unfit or unknown
+pub record AsksWell (s : Scheme) (m : Model) : Type 0 where
+  pub formed : WellFormed m.means
+  -- invoke and ACT_REQ ask for an offer, ACT_REQ and ACT_RES for an agreement; ACT_RES brings no seed, so one is kept
+  pub offer : (seed : List ℕ) (room : ℕ) → length seed ≡ 16 → 255 ≤ room → WellAsked (offered s m.means seed room)
+  pub agreement : (seed offer : List ℕ) (role : Role) → length seed ≡ 16 → WellAsked (agreed s m.means seed offer (role_byte role))
+  pub kept_seed : m.state ≡ Select → length m.seed ≡ 16
+  -- the call that agrees may ask at once for a check value of the new secret
+  pub new_secret : has_secret m.state ≡ false → (value : List ℕ) → ServesAsSecret s (adding m.means SharedSecret value) (m.means.newest + 1)
+  -- VFY_REQ, VFY_RES and retrieve_secret ask for the shared secret, send and ENC for the link key
+  pub secret : has_secret m.state ≡ true → ServesAsSecret s m.means m.secret
+  pub link : m.state ≡ ConfirmedSch → ServesAsLink s m.means m.link
+  -- where Idle is entered the keys are destroyed, the link key first; 0 is none
+  pub link_goes : m.link ≢ 0 → WellAsked (destroy_answer m.means m.link)
+  pub secret_goes : m.secret ≢ 0 → WellAsked (destroy_answer (without_key m.means m.link) m.secret)
+
+-- The promises.
+
+-- what holds of an entity after a history
+pub record Kept (s : Scheme) (m : Model) (h : History) : Type 0 where
+  pub keys : KeysAccounted m h
+  pub sessions : SessionsKept s m h
+  pub suite : AsksWell s m
+
+-- for every kind of suite, every fresh entity and every list of calls; so also of the entity that any call of a run is made to
+abbrev pub EveryRun : Type 0
+EveryRun = (s : Scheme) → Lawful s → (m : Model) → Fresh m → (calls : List Call) → AllByRecursion GivenBytes calls → Kept s (after s m calls) (history s m calls)
+
+-- Two sessions with equal link keys, over suites of one kind: if mine gets no ENC but copies of the records sent in the two,
+-- the data handed out in mine are an in-order part of the data sent in theirs, and begin them if no number was sent in both.
+abbrev pub Ordered : Type 0
+Ordered = (s t : Scheme) → Lawful s → Lawful t → OneKind s t → (value : List ℕ) (mine theirs : History) (one : LinkSession s value mine) (other : LinkSession t value theirs) → OnlyCopies (encs mine ++ encs theirs) mine →
+    Part (handed mine) (sent theirs)
+    × (NoneTwice (numbers s (root_of one) (serial_of one) value (encs mine)) (numbers t (root_of other) (serial_of other) value (encs theirs)) → Begins (handed mine) (sent theirs))
+
+abbrev pub Promises : Type 0
+Promises = EveryRun × Ordered
