@@ -1,0 +1,2 @@
+mod Replies
+mod Turns

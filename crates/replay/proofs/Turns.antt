@@ -1,0 +1,69 @@
+-- One more call of a log.
+use Rattle.std.proofs.Common.{◌≡◌, ℕ, ◌+◌, ◌<◌, ◌≤◌, List, [], ◌∷◌, ◌++◌, length, take, set, get_or, map, reverse, refl, sym, ap, ◌∙◌, subst, append_assoc, append-nil, arith, length-take, Result}
+use Rattle.std.proofs.lemmas.List.{take_more, take_more_set, reverse-append, map-append, length-map}
+use Rattle.protocol.specs.declared.outcomes.Outcome.{Outcome}
+use Rattle.protocol.specs.declared.refusals.Refusal.{Refusal}
+use Rattle.protocol.specs.Calls.{Call, turn}
+use Rattle.protocol.specs.Models.{Model}
+use Rattle.suite.specs.Schemes.{Scheme}
+use Rattle.histories.specs.Histories.{entered, after, history}
+use Rattle.histories.specs.Histories as h
+use Rattle.histories.specs.Records.{Charge, charges, link_in, charged_in}
+use Rattle.replay.specs.declared.call.Call.{Call as Logged}
+use Rattle.replay.specs.declared.entry.Entry.{Entry}
+use Rattle.replay.specs.Called.{called, calls_of}
+use Rattle.replay.specs.Entries.{told, told_each, told_history, told_records, charge_of, next_session}
+
+pub calls_more : (log : List Logged) (i : ℕ) (x : Logged) → i < length log → reverse (calls_of (take (i + 1) log)) ≡ called (get_or log i x) ∷ reverse (calls_of (take i log))
+calls_more log i x h =
+    let one = get_or log i x ∷ [] in
+    ap (λ z. reverse (calls_of z)) (take_more log i x h)
+    ∙ ap reverse (map-append called (take i log) one)
+    ∙ reverse-append (calls_of (take i log)) (called (get_or log i x) ∷ [])
+
+each_more : (cs : List Call) (es : List Entry) (c : Call) (e : Entry) → length cs ≡ length es → told_each (cs ++ (c ∷ [])) (es ++ (e ∷ [])) ≡ told_each cs es ++ (told c e ∷ [])
+each_more [] [] c e h = refl
+each_more [] (x ∷ es) c e h = absurd (omega arith)
+each_more (k ∷ cs) [] c e h = absurd (omega arith)
+each_more (k ∷ cs) (x ∷ es) c e h = ap (λ z. told k x ∷ z) (each_more cs es c e (omega arith))
+
+pub told_more : (log : List Logged) (entries : List Entry) (i : ℕ) (x : Logged) (e : Entry) → i < length log → length entries ≡ length log
+    → told_history (calls_of (take (i + 1) log)) (take (i + 1) (set entries i e)) ≡ told (called (get_or log i x)) e ∷ told_history (calls_of (take i log)) (take i entries)
+told_more log entries i x e h long =
+    let low : i < length entries = omega arith in
+    let one = get_or log i x ∷ [] in
+    let same : length (calls_of (take i log)) ≡ length (take i entries) = length-map (take i log) called ∙ simp length-take (omega arith) in
+    ap (λ z. told_history (calls_of z) (take (i + 1) (set entries i e))) (take_more log i x h)
+    ∙ ap (told_history (calls_of (take i log ++ one))) (take_more_set entries i e low)
+    ∙ ap (λ z. told_history z (take i entries ++ (e ∷ []))) (map-append called (take i log) one)
+    ∙ ap reverse (each_more (calls_of (take i log)) (take i entries) (called (get_or log i x)) e same)
+    ∙ reverse-append (told_each (calls_of (take i log)) (take i entries)) (told (called (get_or log i x)) e ∷ [])
+
+records_on : (es : List Entry) (e : Entry) → told_records (es ++ (e ∷ [])) ≡ told_records es ++ charge_of e.record
+records_on [] e = append-nil (charge_of e.record)
+records_on (x ∷ es) e = ap (λ z. charge_of x.record ++ z) (records_on es e) ∙ sym (append_assoc (charge_of x.record) (told_records es) (charge_of e.record))
+
+pub records_more : (entries : List Entry) (i : ℕ) (e : Entry) → i < length entries → told_records (take (i + 1) (set entries i e)) ≡ told_records (take i entries) ++ charge_of e.record
+records_more entries i e h = ap told_records (take_more_set entries i e h) ∙ records_on (take i entries) e
+
+-- One more call of a run: what was made so far, before it, and the call.
+module _ (s : Scheme) (m : Model) (made more : List Call) (k : Call) (before : Model) (e : more ≡ k ∷ made) (at : before ≡ after s m made) where
+  pub model_more : (left : Model) → left ≡ (turn s before k).model → left ≡ after s m more
+  model_more left p = p ∙ ap (λ z. (turn s z k).model) at ∙ sym (ap (after s m) e)
+
+  pub entry_is : (x : h.Entry) (answer : Result Outcome Refusal) (written : List ℕ) → x ≡ record { call = k; answer = answer; written = written } → answer ≡ (turn s before k).answer → written ≡ (turn s before k).reply → x ≡ entered k (turn s (after s m made) k)
+  entry_is x answer written p q r =
+      p ∙ ap (λ z. record { call = k; answer = z; written = written }) q ∙ ap (λ z. record { call = k; answer = (turn s before k).answer; written = z }) r ∙ ap (λ z. entered k (turn s z k)) at
+
+  pub history_more : (x : h.Entry) (old new : h.History) → x ≡ entered k (turn s (after s m made) k) → old ≡ history s m made → new ≡ x ∷ old → new ≡ history s m more
+  history_more x old new p q r = r ∙ ap (λ z. z ∷ old) p ∙ ap (λ z. entered k (turn s (after s m made) k) ∷ z) q ∙ sym (ap (history s m) e)
+
+  pub charges_more : (x : h.Entry) (old new one : List Charge) (session : ℕ) → x ≡ entered k (turn s (after s m made) k) → old ≡ charges (history s m made) → session ≡ link_in (history s m made) → one ≡ charged_in session x → new ≡ old ++ one → new ≡ charges (history s m more)
+  charges_more x old new one session p q l o r =
+      r ∙ ap (λ z. old ++ z) (o ∙ ap (charged_in session) p ∙ ap (λ z. charged_in z (entered k (turn s (after s m made) k))) l)
+      ∙ ap (λ z. z ++ charged_in (link_in (history s m made)) (entered k (turn s (after s m made) k))) q
+      ∙ sym (ap (λ z. charges (history s m z)) e)
+
+  pub session_more : (answer : Result Outcome Refusal) (session next : ℕ) → answer ≡ (turn s before k).answer → session ≡ link_in (history s m made) → next ≡ next_session session answer → next ≡ link_in (history s m more)
+  session_more answer session next q l r =
+      r ∙ ap (λ z. next_session z answer) l ∙ ap (next_session (link_in (history s m made))) (q ∙ ap (λ z. (turn s z k).answer) at) ∙ sym (ap (λ z. link_in (history s m z)) e)

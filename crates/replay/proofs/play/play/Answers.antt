@@ -1,0 +1,30 @@
+use Rattle.std.proofs.Common.{◌≡◌, ◌+◌, ◌<◌, length, take, reverse, arith, rules}
+use Rattle.entity.specs.Views.{view}
+use Rattle.replay.specs.Called.{called, calls_of}
+use Rattle.replay.specs.Entries.{told}
+use Rattle.replay.proofs.Turns.{calls_more, told_more, records_more, model_more, entry_is, history_more, charges_more, session_more}
+use Rattle.replay.proofs.play.play.Goals as goal
+
+pub loop-i-preserved : goal.loop-i-preserved
+loop-i-preserved g c =
+    let s = g.S.Suite.scheme in
+    let m = view g.S.Suite.meaning c.args.entity.now in
+    let log = c.args.calls.now in
+    let i = c.loop-i.i in
+    let so_far = c.loop-i.invariant in
+    let low : i < length log = omega arith in
+    let place : i < length c.loop-i.entries = omega arith in
+    let old = reverse (calls_of (take i log)) in
+    let new = reverse (calls_of (take (i + 1) log)) in
+    let e = calls_more log i _ low in
+    let made = c.make-answer.ensures in
+    let before = view g.S.Suite.meaning c.loop-i.entity in
+    let x = entry_is s m old new _ before e so_far.model _ c.make-answer.result.0 _ c.note.ensures.told made.answer made.written in
+    record {
+      places = search rules;
+      lent = search rules;
+      model = model_more s m old new _ before e so_far.model _ made.model;
+      told = history_more s m old new _ before e so_far.model _ _ _ x so_far.told (told_more log c.loop-i.entries i _ c.note.result low so_far.places);
+      records = charges_more s m old new _ before e so_far.model _ _ _ _ c.loop-i.session x so_far.records so_far.session c.note.ensures.record (records_more c.loop-i.entries i c.note.result place);
+      session = session_more s m old new _ before e so_far.model c.make-answer.result.0 c.loop-i.session _ made.answer so_far.session c.next_session-session.ensures;
+    }

@@ -1,0 +1,22 @@
+use Rattle.std.proofs.Common.{◌≡◌, length, take, reverse}
+use Rattle.histories.specs.Histories.{after, history}
+use Rattle.histories.specs.Records.{charges, link_in}
+use Rattle.entity.specs.Views.{view}
+use Rattle.replay.specs.Called.{calls_of}
+use Rattle.replay.specs.Entries.{told_history, told_records}
+use Rattle.replay.proofs.play.play.Given as goal
+
+-- so far: the calls before i are made and noted, and the session is the one that runs
+abbrev pub invariant-loop-i : goal.invariant-loop-i
+invariant-loop-i g l =
+    let s = g.S.Suite.scheme in
+    let m = view g.S.Suite.meaning l.fn.entity in
+    let made = reverse (calls_of (take l.i l.calls)) in
+    record {
+      places : length l.entries ≡ length l.calls;
+      lent : length l.buffer ≡ length l.initial.buffer;
+      model : view g.S.Suite.meaning l.entity ≡ after s m made;
+      told : told_history (calls_of (take l.i l.calls)) (take l.i l.entries) ≡ history s m made;
+      records : told_records (take l.i l.entries) ≡ charges (history s m made);
+      session : l.session ≡ link_in (history s m made);
+    }

@@ -1,0 +1,65 @@
+-- The entries of a transcript, as the definitions have them.
+use Rattle.std.specs.Prelude.{ℕ, ◌≤◌, cond, List, length, [], ◌∷◌, ◌++◌, reverse, take, Some, None, Ok, Err, Option, Result, ◌==◌}
+use Rattle.protocol.specs.Calls.{Call, invoke, send, retrieve_data, retrieve_secret, terminate, frame, release}
+use Rattle.protocol.specs.declared.outcomes.Outcome.{Outcome}
+use Rattle.protocol.specs.declared.refusals.Refusal.{Refusal}
+use Rattle.histories.specs.Histories as h
+use Rattle.histories.specs.Records.{Charge, was_sent, was_handed}
+use Rattle.histories.specs.Records as r
+use Rattle.replay.specs.declared.entry.Written.{Written}
+use Rattle.replay.specs.declared.entry.Way.{Way}
+use Rattle.replay.specs.declared.entry.Way.TheVariants.{Sent, Handed}
+use Rattle.replay.specs.declared.entry.Record.{Record}
+use Rattle.replay.specs.declared.entry.Entry.{Entry}
+
+abbrev pub bytes_of : Written → List ℕ
+bytes_of w = take w.length w.bytes
+
+-- what lies in the front of a buffer, by the length that a call answered
+abbrev pub wrote : Result Outcome Refusal → List ℕ → List ℕ
+wrote (Ok o) buffer = take o.length buffer
+wrote (Err r) buffer = []
+
+-- Entries, with their calls.
+
+abbrev pub told : Call → Entry → h.Entry
+told c e = record { call = c; answer = e.answer; written = bytes_of e.written }
+
+abbrev pub told_each : List Call → List Entry → List h.Entry
+told_each [] es = []
+told_each (c ∷ cs) [] = []
+told_each (c ∷ cs) (e ∷ es) = told c e ∷ told_each cs es
+
+-- the history that a log and its entries tell, the newest call first
+abbrev pub told_history : List Call → List Entry → h.History
+told_history calls entries = reverse (told_each calls entries)
+
+-- Records.
+
+abbrev pub way_of : Way → r.Way
+way_of Sent = was_sent
+way_of Handed = was_handed
+
+abbrev pub charge_of : Option Record → List Charge
+charge_of None = []
+charge_of (Some x) = record { session = x.session; way = way_of x.way; plain = bytes_of x.plain } ∷ []
+
+-- the records that the entries tell, the oldest first
+abbrev pub told_records : List Entry → List Charge
+told_records [] = []
+told_records (e ∷ es) = charge_of e.record ++ told_records es
+
+-- the session that runs after a call, by its answer and the session that ran before
+abbrev pub next_session : ℕ → Result Outcome Refusal → ℕ
+next_session n answer = cond (h.started_by answer == 0) (cond (h.member n (h.destroyed_in answer)) 0 n) (h.started_by answer)
+
+-- a send that is answered had data that a record holds
+abbrev pub FitsSend : Call → Result Outcome Refusal → Type 0
+FitsSend (invoke service pid seed room) answer = Unit {0}
+FitsSend (send plain room) (Ok o) = length plain ≤ 200
+FitsSend (send plain room) (Err r) = Unit {0}
+FitsSend (retrieve_data room) answer = Unit {0}
+FitsSend (retrieve_secret room) answer = Unit {0}
+FitsSend (terminate room) answer = Unit {0}
+FitsSend (frame bytes seed room) answer = Unit {0}
+FitsSend release answer = Unit {0}

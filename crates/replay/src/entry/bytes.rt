@@ -1,0 +1,31 @@
+ghost use Rattle.std.specs.Prelude.{◌≡◌, ◌≤◌, [], length};
+ghost use Rattle.replay.specs.Entries.{bytes_of};
+
+use super::Written;
+
+impl Written {
+    pub(crate) fn nothing() -> Written
+        ensures { bytes_of result ≡ [] }
+    {
+        Written {
+            bytes: [0; 255],
+            length: 0,
+        }
+    }
+
+    pub(crate) fn new(written: &[u8]) -> Written
+        requires { length written.now ≤ 255 }
+        ensures { bytes_of result ≡ written.now }
+    {
+        let mut bytes = [0; 255];
+        let length = written.len();
+        bytes[..length].copy_from_slice(written);
+        Written { bytes, length }
+    }
+
+    pub fn bytes(&self) -> &[u8]
+        ensures { result.now ≡ bytes_of self.now }
+    {
+        &self.bytes[..self.length]
+    }
+}

@@ -1,0 +1,11 @@
+// Calls of two entities made again from their logs, and what every run of calls promises.
+#![tactic(auto)]
+
+mod call;
+mod entry;
+mod make;
+mod note;
+mod play;
+
+pub use call::Call;
+pub use entry::{Entry, Record, Way, Written};
