@@ -9,12 +9,14 @@ use Rattle.protocol.specs.Numbers.{state_mark}
 use Rattle.protocol.specs.Models.{Model}
 use Rattle.protocol.specs.Calls.{Call, invoke, send, retrieve_data, retrieve_secret, terminate, frame, release, turn, in_state}
 use Rattle.histories.specs.Histories.{History, Fresh, GivenBytes, after, history, entered, handing}
-use Rattle.promises.specs.Promises.{HandedInSession, Kept, EveryRun}
+use Rattle.histories.specs.Records.{was_sent, was_handed}
+use Rattle.promises.specs.Promises.{HandedInSession, SessionsTold, Kept, EveryRun}
 use Rattle.promises.proofs.Cases.{clash}
 use Rattle.promises.proofs.Books.{within_less}
 use Rattle.promises.proofs.Sounds.{Sound, at_idle, at_select, at_secret, at_sch, has_link}
 use Rattle.promises.proofs.Turns.{not_idle, not_linked}
-use Rattle.promises.proofs.Runs.{Holds, holds}
+use Rattle.promises.proofs.Runs.{Holds, holds, orderly}
+use Rattle.promises.proofs.Tellings.{Orderly, read_off, none_read, runs_told, over_told}
 use Rattle.promises.proofs.Askings.{asks_well}
 
 -- only in Confirmed_SCH is data handed out
@@ -60,8 +62,18 @@ number_below s (at_select b h) e = absurd (cc)
 number_below s (at_secret state k one) e = clash _ (not_linked k) (ap (λ z. eqb (state_mark z) 5) e)
 number_below s (at_sch h lo hi) e = hi
 
-kept : (s : Scheme) → Lawful s → {m : Model} {h : History} → Holds s m h → HandedInSession h → Kept s m h
-kept s law {m} H g = record {
+told : (s : Scheme) {m : Model} {h : History} → Holds s m h → Orderly h → SessionsTold m h
+told s {m} {h} H o = record {
+  running = λ n since r. read_off n r o;
+  none = λ e. none_read h (λ x. e (confirmed_at m.state (H.all x.0 x.1.0 x.1.1).linked));
+  sent_told = λ n since r. runs_told n was_sent r o H.books.anew;
+  handed_told = λ n since r. runs_told n was_handed r o H.books.anew;
+  sent_over = λ n since r. over_told n was_sent r o H.books.anew;
+  handed_over = λ n since r. over_told n was_handed r o H.books.anew;
+}
+
+kept : (s : Scheme) → Lawful s → {m : Model} {h : History} → Holds s m h → HandedInSession h → Orderly h → Kept s m h
+kept s law {m} H g o = record {
   keys = record {
     live = sym H.books.exact;
     made_once = H.books.anew;
@@ -76,8 +88,9 @@ kept s law {m} H g = record {
     last = number_below s H.sound;
     handed = g;
   };
+  told = told s H o;
   suite = asks_well s law H.sound;
 }
 
 pub every_run : EveryRun
-every_run s law m f calls given = kept s law (holds s law m f calls given) (all_handed s law m f calls given)
+every_run s law m f calls given = kept s law (holds s law m f calls given) (all_handed s law m f calls given) (orderly s law m f calls given)
