@@ -1,5 +1,5 @@
 -- The records of a history, session by session.
-use Rattle.std.specs.Prelude.{◌≡◌, ℕ, true, cond, ◌&&◌, List, [], ◌∷◌, ◌++◌, map, ◌==◌}
+use Rattle.std.specs.Prelude.{◌≡◌, ℕ, true, cond, ◌&&◌, ◌⊎◌, List, [], ◌∷◌, ◌++◌, map, ◌==◌}
 use Rattle.histories.specs.Histories.{Entry, History, started_by, destroyed_in, member, Runs, sent_in, handing}
 
 -- the link key of the session that runs after a history, 0 where none does
@@ -11,6 +11,10 @@ link_in (e ∷ h) = cond (started_by e.answer == 0) (cond (member (link_in h) (d
 pub data Over (n : ℕ) : History → History → Type 0 where
   ends : {e : Entry} {h since : History} → Runs n h since → member n (destroyed_in e.answer) ≡ true → Over n (e ∷ h) (e ∷ since)
   stays : {e : Entry} {h since : History} → Over n h since → Over n (e ∷ h) since
+
+-- in the history there was a link session with link key n: it runs or is over
+abbrev pub Session : ℕ → History → Type 0
+Session n h = (since : History) × (Runs n h since ⊎ Over n h since)
 
 -- what became of the data of a record
 pub data Way : Type 0 where

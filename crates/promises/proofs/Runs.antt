@@ -143,6 +143,7 @@ module _ (s : Scheme) (law : Lawful s) (m : Model) where
   holds f [] given = holds_first f
   holds f (c ∷ before) given = held_on s c (holds f before given.1) (turn s (after s m before) c) (did s law c given.0 (holds f before given.1).sound)
 
+  -- so no session starts while one runs
   pub orderly : Fresh m → (calls : List Call) → AllByRecursion GivenBytes calls → Orderly (history s m calls)
   orderly f [] given = tt
   orderly f (c ∷ before) given =

@@ -14,7 +14,7 @@ use Rattle.protocol.specs.declared.states.State.TheVariants.{Idle, Select, Estab
 use Rattle.protocol.specs.Models.{Model, without_key}
 use Rattle.protocol.specs.Calls.{Call}
 use Rattle.histories.specs.Histories.{History, Fresh, GivenBytes, after, history, made, destroyed, less, Distinct, Runs, Running, sent, taken, handing, handed}
-use Rattle.histories.specs.Records.{link_in, Over, was_sent, was_handed, charges, those}
+use Rattle.histories.specs.Records.{link_in, Over, Session, Way, was_sent, was_handed, charges, those}
 use Rattle.histories.specs.Sessions.{encs, numbers, OnlyCopies, Part, Begins, LinkSession, root_of, serial_of, NoneTwice}
 
 -- Keys.
@@ -61,6 +61,8 @@ pub record SessionsTold (m : Model) (h : History) : Type 0 where
   -- so are those of a session that is over
   pub sent_over : (n : ℕ) (since : History) → Over n h since → those n was_sent (charges h) ≡ sent since
   pub handed_over : (n : ℕ) (since : History) → Over n h since → those n was_handed (charges h) ≡ handed since
+  -- and no others are told
+  pub no_others : (n : ℕ) (way : Way) → those n way (charges h) ≢ [] → Session n h
 
 -- What the suite is asked.
 
