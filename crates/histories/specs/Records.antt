@@ -1,11 +1,20 @@
 -- The records of a history, session by session.
-use Rattle.std.specs.Prelude.{ℕ, cond, List, [], ◌∷◌, ◌++◌, map, ◌==◌}
-use Rattle.histories.specs.Histories.{Entry, History, started_by, destroyed_in, member, sent_in, handing}
+use Rattle.std.specs.Prelude.{◌≡◌, ℕ, true, cond, ◌&&◌, ◌⊎◌, List, [], ◌∷◌, ◌++◌, map, ◌==◌}
+use Rattle.histories.specs.Histories.{Entry, History, started_by, destroyed_in, member, Runs, sent_in, handing}
 
 -- the link key of the session that runs after a history, 0 where none does
 abbrev pub link_in : History → ℕ
 link_in [] = 0
 link_in (e ∷ h) = cond (started_by e.answer == 0) (cond (member (link_in h) (destroyed_in e.answer)) 0 (link_in h)) (started_by e.answer)
+
+-- after the history the link session with link key n is over, and these calls were made in it; the last reports the link key destroyed
+pub data Over (n : ℕ) : History → History → Type 0 where
+  ends : {e : Entry} {h since : History} → Runs n h since → member n (destroyed_in e.answer) ≡ true → Over n (e ∷ h) (e ∷ since)
+  stays : {e : Entry} {h since : History} → Over n h since → Over n (e ∷ h) since
+
+-- in the history there was a link session with link key n: it runs or is over
+abbrev pub Session : ℕ → History → Type 0
+Session n h = (since : History) × (Runs n h since ⊎ Over n h since)
 
 -- what became of the data of a record
 pub data Way : Type 0 where
@@ -27,3 +36,13 @@ charged_in session e =
 abbrev pub charges : History → List Charge
 charges [] = []
 charges (e ∷ h) = charges h ++ charged_in (link_in h) e
+
+-- a number for each way
+abbrev pub way_mark : Way → ℕ
+way_mark was_sent = 0
+way_mark was_handed = 1
+
+-- the data of the records of the session with link key n that went that way
+abbrev pub those : ℕ → Way → List Charge → List (List ℕ)
+those n way [] = []
+those n way (c ∷ cs) = cond (c.session == n && way_mark c.way == way_mark way) (c.plain ∷ those n way cs) (those n way cs)

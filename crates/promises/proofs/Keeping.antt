@@ -1,20 +1,23 @@
 -- Every run keeps account of its keys, its link sessions and its suite.
-use Rattle.std.proofs.Common.{◌≡◌, ◌≤◌, true, false, eqb, List, [], ◌∷◌, sym, refl, ap, inl, inr}
+use Rattle.std.proofs.Common.{◌≡◌, ℕ, ◌≤◌, Bool, true, false, cond, not, eqb, List, [], ◌∷◌, sym, refl, ap, inl, inr, arith}
 use Rattle.std.proofs.lemmas.Bool.{cases_Bool}
 use Rattle.std.specs.List.{AllByRecursion}
 use Rattle.suite.specs.Schemes.{Scheme, Lawful}
+use Rattle.suite.specs.Calls.{no_room}
 use Rattle.protocol.specs.declared.states.State.{State}
 use Rattle.protocol.specs.declared.states.State.TheVariants.{Idle, Select, EstablishedSender, EstablishedRecipient, ConfirmedSse, ConfirmedSch}
 use Rattle.protocol.specs.Numbers.{state_mark}
 use Rattle.protocol.specs.Models.{Model}
-use Rattle.protocol.specs.Calls.{Call, invoke, send, retrieve_data, retrieve_secret, terminate, frame, release, turn, in_state}
-use Rattle.histories.specs.Histories.{History, Fresh, GivenBytes, after, history, entered, handing}
-use Rattle.promises.specs.Promises.{HandedInSession, Kept, EveryRun}
-use Rattle.promises.proofs.Cases.{clash}
+use Rattle.protocol.specs.Calls.{Call, invoke, send, retrieve_data, retrieve_secret, terminate, frame, release, Turn, turn, in_state}
+use Rattle.histories.specs.Histories.{Entry, History, Fresh, GivenBytes, after, history, entered, confirms, sent_in, handing}
+use Rattle.histories.specs.Records.{link_in, was_sent, was_handed, charged_in}
+use Rattle.promises.specs.Promises.{HandedInSession, SessionsTold, Kept, EveryRun}
+use Rattle.promises.proofs.Cases.{both, clash}
 use Rattle.promises.proofs.Books.{within_less}
 use Rattle.promises.proofs.Sounds.{Sound, at_idle, at_select, at_secret, at_sch, has_link}
 use Rattle.promises.proofs.Turns.{not_idle, not_linked}
-use Rattle.promises.proofs.Runs.{Holds, holds}
+use Rattle.promises.proofs.Runs.{Holds, holds, orderly}
+use Rattle.promises.proofs.Tellings.{Orderly, read_off, none_read, runs_told, run_above, over_told, Quiet, no_others}
 use Rattle.promises.proofs.Askings.{asks_well}
 
 -- only in Confirmed_SCH is data handed out
@@ -36,6 +39,52 @@ handed_at s m release e = absurd (cc)
 all_handed : (s : Scheme) → Lawful s → (m : Model) → Fresh m → (calls : List Call) → AllByRecursion GivenBytes calls → HandedInSession (history s m calls)
 all_handed s law m f [] given = tt
 all_handed s law m f (c ∷ before) given = (λ e. (holds s law m f before given.1).some (handed_at s (after s m before) c e), all_handed s law m f before given.1)
+
+-- a call that is given no data sends none
+none_given : (b : Bool) → ◌≡◌ {A = List (List ℕ)} (cond b [] []) []
+none_given true = refl
+none_given false = refl
+
+-- only in Confirmed_SCH is data sent
+unsent_at : (s : Scheme) (m : Model) (c : Call) → has_link m ≡ false → sent_in (entered c (turn s m c)) ≡ []
+unsent_at s m (invoke service pid seed room) o = none_given (confirms 2 (turn s m (invoke service pid seed room)).answer)
+unsent_at s m (send plain room) o =
+    both (no_room room) (λ (t : Turn). cond (confirms 2 t.answer) (plain ∷ []) [] ≡ [])
+    (λ _. refl)
+    (λ _. both (not (has_link m)) (λ (t : Turn). cond (confirms 2 t.answer) (plain ∷ []) [] ≡ []) (λ _. refl) (λ f. clash (not (has_link m)) f (ap not o)))
+unsent_at s m (retrieve_data room) o = none_given (confirms 2 (turn s m (retrieve_data room)).answer)
+unsent_at s m (retrieve_secret room) o = none_given (confirms 2 (turn s m (retrieve_secret room)).answer)
+unsent_at s m (terminate room) o = none_given (confirms 2 (turn s m (terminate room)).answer)
+unsent_at s m (frame bytes seed room) o = none_given (confirms 2 (turn s m (frame bytes seed room)).answer)
+unsent_at s m release o = none_given (confirms 2 (turn s m release).answer)
+
+-- where no session is read off there is no link key
+unlinked_at : (s : Scheme) {m : Model} {h : History} → Holds s m h → Orderly h → link_in h ≡ 0 → has_link m ≡ false
+unlinked_at s {m} {h} H o z =
+    elim (cases_Bool (has_link m)) [
+      | inl t ↦
+          let x = H.some t in
+          let pos = run_above x.0 x.1.1 in
+          let here = read_off x.0 x.1.1 o in
+          absurd (omega arith)
+      | inr f ↦ f
+    ]
+
+-- with no link key nothing is sent or handed out
+quiet_at : (s : Scheme) (m : Model) (c : Call) → has_link m ≡ false → charged_in 0 (entered c (turn s m c)) ≡ []
+quiet_at s m c o =
+    let e : Entry = entered c (turn s m c) in
+    let unsent : sent_in e ≡ [] = unsent_at s m c o in
+    let kept : handing e ≡ false = elim (cases_Bool (handing e)) [ inl t ↦ clash (has_link m) o (handed_at s m c t) | inr f ↦ f ] in
+    rw (unsent, kept)
+
+-- so it is in every call of a run
+all_quiet : (s : Scheme) → Lawful s → (m : Model) → Fresh m → (calls : List Call) → AllByRecursion GivenBytes calls → Quiet (history s m calls)
+all_quiet s law m f [] given = tt
+all_quiet s law m f (c ∷ before) given =
+    let H = holds s law m f before given.1 in
+    let o = orderly s law m f before given.1 in
+    (λ z. quiet_at s (after s m before) c (unlinked_at s H o z), all_quiet s law m f before given.1)
 
 confirmed_at : (state : State) → eqb (state_mark state) 5 ≡ true → state ≡ ConfirmedSch
 confirmed_at Idle e = absurd (cc)
@@ -60,8 +109,20 @@ number_below s (at_select b h) e = absurd (cc)
 number_below s (at_secret state k one) e = clash _ (not_linked k) (ap (λ z. eqb (state_mark z) 5) e)
 number_below s (at_sch h lo hi) e = hi
 
-kept : (s : Scheme) → Lawful s → {m : Model} {h : History} → Holds s m h → HandedInSession h → Kept s m h
-kept s law {m} H g = record {
+-- what is told of link sessions holds after every list of calls
+told : (s : Scheme) {m : Model} {h : History} → Holds s m h → Orderly h → Quiet h → SessionsTold m h
+told s {m} {h} H o quiet = record {
+  running = λ n since r. read_off n r o;
+  none = λ e. none_read h (λ x. e (confirmed_at m.state (H.all x.0 x.1.0 x.1.1).linked));
+  sent_told = λ n since r. runs_told n was_sent r o H.books.anew;
+  handed_told = λ n since r. runs_told n was_handed r o H.books.anew;
+  sent_over = λ n since r. over_told n was_sent r o H.books.anew;
+  handed_over = λ n since r. over_told n was_handed r o H.books.anew;
+  no_others = λ n way some. no_others n way h quiet some;
+}
+
+kept : (s : Scheme) → Lawful s → {m : Model} {h : History} → Holds s m h → HandedInSession h → Orderly h → Quiet h → Kept s m h
+kept s law {m} H g o quiet = record {
   keys = record {
     live = sym H.books.exact;
     made_once = H.books.anew;
@@ -76,8 +137,9 @@ kept s law {m} H g = record {
     last = number_below s H.sound;
     handed = g;
   };
+  told = told s H o quiet;
   suite = asks_well s law H.sound;
 }
 
 pub every_run : EveryRun
-every_run s law m f calls given = kept s law (holds s law m f calls given) (all_handed s law m f calls given)
+every_run s law m f calls given = kept s law (holds s law m f calls given) (all_handed s law m f calls given) (orderly s law m f calls given) (all_quiet s law m f calls given)

@@ -9,6 +9,7 @@ pub mod Sounds
 pub mod Turns
 pub mod Messages
 pub mod Requests
+pub mod Tellings
 pub mod Runs
 pub mod Askings
 pub mod Keeping

@@ -15,6 +15,7 @@ use Rattle.promises.proofs.Forms.{base_of}
 use Rattle.promises.proofs.Ledgers.{End, Act, Ledger, start, more}
 use Rattle.promises.proofs.Sounds.{Sound, at_idle, has_link, end_of, Silent, MakesNext, Did, outside, inside, agrees, links, ends}
 use Rattle.promises.proofs.Requests.{did}
+use Rattle.promises.proofs.Tellings.{Orderly}
 
 -- what holds of a session that runs
 pub record Fits (s : Scheme) (m : Model) (n : ℕ) (since : History) : Type 0 where
@@ -118,6 +119,14 @@ module _ (s : Scheme) (c : Call) {m : Model} {h : History} (H : Holds s m h) (t 
   held_on (links S o i q z l num nh) = record { sound = S; books = books_next q; all = fits_link o i z l num nh; some = λ x. (m.means.newest + 1, ([], starts (omega arith) z)) }
   held_on (ends S o new live k z cl d) = record { sound = S; books = books_ended new live k cl; all = fits_ends z d; some = λ x. clash _ o x }
 
+  -- a call made while a session runs starts none
+  pub starts_none : Did s c m t → Running h → started_by t.answer ≡ 0
+  starts_none (outside S em o o' q) x = q.begins
+  starts_none (inside S em i i' el ee q num act) x = q.begins
+  starts_none (agrees S o o' q z) x = z
+  starts_none (links S o i q z l num nh) (n, (since, r)) = none_ran o n since r
+  starts_none (ends S o new live k z cl d) x = z
+
 not_yet : {X : Type 0} {n : ℕ} {since : History} → Runs n [] since → X
 not_yet = elim [ ]
 
@@ -133,3 +142,10 @@ module _ (s : Scheme) (law : Lawful s) (m : Model) where
   pub holds : Fresh m → (calls : List Call) → AllByRecursion GivenBytes calls → Holds s (after s m calls) (history s m calls)
   holds f [] given = holds_first f
   holds f (c ∷ before) given = held_on s c (holds f before given.1) (turn s (after s m before) c) (did s law c given.0 (holds f before given.1).sound)
+
+  -- so no session starts while one runs
+  pub orderly : Fresh m → (calls : List Call) → AllByRecursion GivenBytes calls → Orderly (history s m calls)
+  orderly f [] given = tt
+  orderly f (c ∷ before) given =
+      let H = holds f before given.1 in
+      (starts_none s c H (turn s (after s m before) c) (did s law c given.0 H.sound), orderly f before given.1)

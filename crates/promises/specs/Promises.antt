@@ -14,6 +14,7 @@ use Rattle.protocol.specs.declared.states.State.TheVariants.{Idle, Select, Estab
 use Rattle.protocol.specs.Models.{Model, without_key}
 use Rattle.protocol.specs.Calls.{Call}
 use Rattle.histories.specs.Histories.{History, Fresh, GivenBytes, after, history, made, destroyed, less, Distinct, Runs, Running, sent, taken, handing, handed}
+use Rattle.histories.specs.Records.{link_in, Over, Session, Way, was_sent, was_handed, charges, those}
 use Rattle.histories.specs.Sessions.{encs, numbers, OnlyCopies, Part, Begins, LinkSession, root_of, serial_of, NoneTwice}
 
 -- Keys.
@@ -46,6 +47,22 @@ pub record SessionsKept (s : Scheme) (m : Model) (h : History) : Type 0 where
   pub number : (n : ℕ) (since : History) → Runs n h since → m.number ≡ s.first + length (sent since) + length (taken since)
   pub last : m.state ≡ ConfirmedSch → m.number ≤ s.final
   pub handed : HandedInSession h
+
+-- What is told of link sessions.
+
+-- the sessions and records read off the reports are those of the link sessions
+pub record SessionsTold (m : Model) (h : History) : Type 0 where
+  -- the session read off is the one that runs; where none runs none is read off
+  pub running : (n : ℕ) (since : History) → Runs n h since → link_in h ≡ n
+  pub none : m.state ≢ ConfirmedSch → link_in h ≡ 0
+  -- the records told of the session that runs are those of its calls, in their order
+  pub sent_told : (n : ℕ) (since : History) → Runs n h since → those n was_sent (charges h) ≡ sent since
+  pub handed_told : (n : ℕ) (since : History) → Runs n h since → those n was_handed (charges h) ≡ handed since
+  -- so are those of a session that is over
+  pub sent_over : (n : ℕ) (since : History) → Over n h since → those n was_sent (charges h) ≡ sent since
+  pub handed_over : (n : ℕ) (since : History) → Over n h since → those n was_handed (charges h) ≡ handed since
+  -- and no others are told
+  pub no_others : (n : ℕ) (way : Way) → those n way (charges h) ≢ [] → Session n h
 
 -- What the suite is asked.
 
@@ -96,6 +113,7 @@ pub record AsksWell (s : Scheme) (m : Model) : Type 0 where
 pub record Kept (s : Scheme) (m : Model) (h : History) : Type 0 where
   pub keys : KeysAccounted m h
   pub sessions : SessionsKept s m h
+  pub told : SessionsTold m h
   pub suite : AsksWell s m
 
 -- for every kind of suite, every fresh entity and every list of calls; so also of the entity that any call of a run is made to
