@@ -1,0 +1,247 @@
+-- Two new entities whose frames are passed on unaltered confirm each other.
+use Rattle.std.proofs.Common.{◌≡◌, ℕ, ◌+◌, ◌<◌, ◌≤◌, true, false, eqb, ltb, List, [], ◌∷◌, ◌++◌, length, Some, sym, refl, ap, ◌∙◌, subst, arith, lit<, lit≤}
+use Rattle.std.specs.List.{AllByRecursion}
+use Rattle.std.proofs.lemmas.Bool.{le-ltb, eq-eqb, ne_eqb}
+use Rattle.frame.specs.declared.types.Service.{Service}
+use Rattle.frame.specs.declared.types.Service.TheVariants.{Sse, Sch}
+use Rattle.frame.specs.Frames.{act_req, act_res, vfy_req, vfy_res}
+use Rattle.suite.specs.declared.types.Role.TheVariants.{Sender, Recipient}
+use Rattle.suite.specs.Meanings.{Meaning, Bytes16, WellFormed}
+use Rattle.suite.specs.Schemes.{Scheme, Lawful, ok_role}
+use Rattle.suite_of.specs.Kinds.{Functions, scheme_of}
+use Rattle.protocol.specs.declared.states.State.TheVariants.{EstablishedSender, EstablishedRecipient, ConfirmedSse}
+use Rattle.protocol.specs.declared.outcomes.Confirmation.TheVariants as conf
+use Rattle.protocol.specs.Models.{Model, fresh, no_seed}
+use Rattle.protocol.specs.Steps.{said_by}
+use Rattle.protocol.specs.Calls.{Call, invoke, frame, Turn, turn}
+use Rattle.histories.specs.Histories.{History, GivenBytes, entered, answers}
+use Rattle.exchanges.specs.Duos.{End, Duo, begun, last_written, Meeting, asks, replies, checks, verifies, completes, activated}
+use Rattle.exchanges.specs.Exchanges.{SerialFree, KindsSerialFree, NewIsFresh, Ready, Linked, LinkSucceeds, Shared, SecretSucceeds, IsRun, SomeReady}
+use Rattle.exchanges.proofs.Shapes.{bare, agreed_suite, linked_suite, Base, base_of, linked-formed, link_found, both_gone, selecting, sharing, session, Clears}
+use Rattle.exchanges.proofs.Turns.{stepped, ask_is, reply_is, check_is, confirm-sse, confirm-sch, complete-sse, complete-sch, tell_is}
+use Rattle.exchanges.proofs.Records.{run_called}
+
+-- what is proved of an activation follows from what each of its five calls does
+module _ (s : Scheme) (v : Service) (x : Meeting) where
+  abbrev duo : Turn → Turn → Turn → Turn → Turn → Duo
+  duo t1 t2 t3 t4 t5 = record {
+    one = record { model = t5.model; past = entered (frame t4.reply x.spare x.room) t5 ∷ entered (frame t2.reply x.spare x.room) t3 ∷ entered (invoke v s.pid x.seed x.room) t1 ∷ [] };
+    other = record { model = t4.model; past = entered (frame t3.reply x.spare x.room) t4 ∷ entered (frame t1.reply x.answering x.room) t2 ∷ [] };
+  }
+
+  five : (Q : Duo → Type 0) (t1 t2 t3 t4 t5 : Turn) → turn s (fresh x.mine) (invoke v s.pid x.seed x.room) ≡ t1 → turn s (fresh x.theirs) (frame t1.reply x.answering x.room) ≡ t2 → turn s t1.model (frame t2.reply x.spare x.room) ≡ t3 → turn s t2.model (frame t3.reply x.spare x.room) ≡ t4 → turn s t3.model (frame t4.reply x.spare x.room) ≡ t5 → Q (duo t1 t2 t3 t4 t5) → Q (activated s v x)
+  five Q t1 t2 t3 t4 t5 e1 e2 e3 e4 e5 end =
+      let h2 : Turn → Turn = λ a. turn s (fresh x.theirs) (frame a.reply x.answering x.room) in
+      let h : Turn → Turn → Turn = λ a b. turn s a.model (frame b.reply x.spare x.room) in
+      subst (λ a. let b = h2 a in let c = h a b in let d = h b c in Q (duo a b c d (h c d))) (sym e1)
+      (subst (λ b. let c = h t1 b in let d = h b c in Q (duo t1 b c d (h c d))) (sym e2)
+      (subst (λ c. let d = h t2 c in Q (duo t1 t2 c d (h c d))) (sym e3)
+      (subst (λ d. Q (duo t1 t2 t3 d (h t3 d))) (sym e4)
+      (subst (λ e. Q (duo t1 t2 t3 t4 e)) (sym e5) end))))
+
+-- the calls of a history were given bytes
+abbrev Given : History → Type 0
+Given h = AllByRecursion (λ e. GivenBytes e.call) h
+
+-- two entities at the start of a link
+pub record Started (s : Scheme) (d : Duo) : Type 0 where
+  pub linked : Linked s d
+  pub mine_given : Given d.one.past
+  pub their_given : Given d.other.past
+  pub mine_clear : Clears d.one.model
+  pub their_clear : Clears d.other.model
+
+-- between two suites with one root and no key
+module _ (s : Scheme) (law : Lawful s) (free : SerialFree s) (root : List ℕ) (last last' n n' room : ℕ) (seed answering spare : List ℕ) (seed_is : Bytes16 seed) (answering_is : Bytes16 answering) (spare_is : Bytes16 spare) (enough : 255 ≤ room) (base : Base root last n) (base' : Base root last' n') where
+  abbrev meeting : Meeting
+  meeting = record { mine = bare root last n; theirs = bare root last' n'; seed = seed; answering = answering; spare = spare; room = room }
+
+  -- the shared secret, and the check values that the Sender and the Recipient write
+  abbrev value : List ℕ
+  value = s.secret_of root (n + 1) 1 seed (s.offer_of root answering)
+
+  abbrev asked : List ℕ
+  asked = s.check_of root (n + 1) value 1
+
+  abbrev replied : List ℕ
+  replied = s.check_of root (n' + 1) value 2
+
+  value16 : Bytes16 value
+  value16 = law.secret_is root seed (s.offer_of root answering) (n + 1) 1 base.root_is seed_is (law.offer_bytes root answering base.root_is answering_is) refl (law.fits root answering base.root_is answering_is)
+
+  agreed : s.secret_of root (n' + 1) 2 answering (s.offer_of root seed) ≡ value
+  agreed = sym (law.agrees root seed answering (n + 1) (n' + 1) base.root_is seed_is answering_is)
+
+  asked_alike : s.check_of root (n' + 1) value 1 ≡ asked
+  asked_alike = free.checks root value (n' + 1) (n + 1) 1
+
+  replied_alike : s.check_of root (n + 1) value 2 ≡ replied
+  replied_alike = free.checks root value (n + 1) (n' + 1) 2
+
+  wide : ltb room 255 ≡ false
+  wide = le-ltb room 255 enough
+
+  sixteen : {xs : List ℕ} → Bytes16 xs → eqb (length xs) 16 ≡ true
+  sixteen {xs} h = eq-eqb (length xs) 16 h.long
+
+  act_req-short : (v : Service) → ltb 255 (length (said_by v (act_req s.pid (s.offer_of root seed)))) ≡ false
+  act_req-short v = let l = law.offer_long root seed base.root_is seed_is in let b = law.offer_bound in le-ltb 255 _ (omega arith)
+
+  act_res-short : (v : Service) → ltb 255 (length (said_by v (act_res (s.offer_of root answering)))) ≡ false
+  act_res-short v = let l = law.offer_long root answering base.root_is answering_is in let b = law.offer_bound in le-ltb 255 _ (omega arith)
+
+  vfy_req-short : (v : Service) → ltb 255 (length (said_by v (vfy_req asked))) ≡ false
+  vfy_req-short v = let l = law.check_long root value (n + 1) 1 base.root_is value16 refl in let b = law.check_bound in le-ltb 255 _ (omega arith)
+
+  vfy_res-short : (v : Service) → ltb 255 (length (said_by v (vfy_res replied))) ≡ false
+  vfy_res-short v = let l = law.check_long root value (n' + 1) 2 base.root_is value16 refl in let b = law.check_bound in le-ltb 255 _ (omega arith)
+
+  left : (k l : ℕ) → k < l → eqb k l ≡ false
+  left k l h = ne_eqb k l (λ e. omega arith)
+
+  abbrev turn1 : Service → Turn
+  turn1 v = stepped (selecting (bare root last n) v seed) conf.Nothing 0 (said_by v (act_req s.pid (s.offer_of root seed)))
+
+  abbrev turn2 : Service → Turn
+  turn2 v = stepped (sharing (agreed_suite root last' (n' + 1) value) EstablishedRecipient v Recipient no_seed (n' + 1)) conf.Nothing (n' + 1) (said_by v (act_res (s.offer_of root answering)))
+
+  abbrev turn3 : Service → Turn
+  turn3 v = stepped (sharing (agreed_suite root last (n + 1) value) EstablishedSender v Sender seed (n + 1)) conf.Nothing (n + 1) (said_by v (vfy_req asked))
+
+  first : (v : Service) → turn s (fresh (bare root last n)) (invoke v s.pid seed room) ≡ turn1 v
+  first v = ask_is s root last n room wide v seed (sixteen seed_is)
+
+  second : (v : Service) → n' < last' → turn s (fresh (bare root last' n')) (frame (said_by v (act_req s.pid (s.offer_of root seed))) answering room) ≡ turn2 v
+  second v h =
+      reply_is s root last' n' room wide v (s.offer_of root seed) answering (sixteen answering_is) (act_req-short v) (law.fits root seed base.root_is seed_is) (left n' last' h)
+      ∙ ap (λ z. stepped (sharing (agreed_suite root last' (n' + 1) z) EstablishedRecipient v Recipient no_seed (n' + 1)) conf.Nothing (n' + 1) (said_by v (act_res (s.offer_of root answering)))) agreed
+
+  third : (v : Service) → n < last → turn s (selecting (bare root last n) v seed) (frame (said_by v (act_res (s.offer_of root answering))) spare room) ≡ turn3 v
+  third v h = check_is s root last n room wide v (s.offer_of root answering) seed spare (sixteen spare_is) (sixteen seed_is) (act_res-short v) (law.fits root answering base.root_is answering_is) (left n last h)
+
+  link_up : n + 2 ≤ last → n' + 2 ≤ last' → Started s (activated s Sch meeting)
+  link_up h h' =
+      let w : List ℕ = s.link_of root (n + 1) value ((n + 1) + 1) in
+      let w' : List ℕ = s.link_of root (n' + 1) value ((n' + 1) + 1) in
+      let same : w' ≡ w = free.links root value (n' + 1) (n + 1) ((n' + 1) + 1) ((n + 1) + 1) in
+      let t4 : Turn = stepped (session (linked_suite root last' (n' + 1) value w') Recipient no_seed s.first [] (n' + 1) ((n' + 1) + 1)) conf.Established ((n' + 1) + 1) (said_by Sch (vfy_res replied)) in
+      let t5 : Turn = stepped (session (linked_suite root last (n + 1) value w) Sender seed s.first [] (n + 1) ((n + 1) + 1)) conf.Established ((n + 1) + 1) [] in
+      let some : 0 < n + 1 = omega arith in
+      let some' : 0 < n' + 1 = omega arith in
+      let full : Base root last ((n + 1) + 1) = record { root_is = base.root_is; below = omega arith; word = base.word } in
+      let full' : Base root last' ((n' + 1) + 1) = record { root_is = base.root_is; below = omega arith; word = base'.word } in
+      let link16 = law.link_is root value (n + 1) ((n + 1) + 1) base.root_is value16 in
+      let link16' = law.link_is root value (n' + 1) ((n' + 1) + 1) base.root_is value16 in
+      five s Sch meeting (Started s) (turn1 Sch) (turn2 Sch) (turn3 Sch) t4 t5 (first Sch) (second Sch (omega arith)) (third Sch (omega arith))
+      (confirm-sch s root last' (n' + 1) room wide value spare (sixteen spare_is) asked replied asked_alike refl (vfy_req-short Sch) (left (n' + 1) last' (omega arith)))
+      (complete-sch s root last (n + 1) room wide value spare (sixteen spare_is) asked replied refl replied_alike seed (vfy_res-short Sch) (left (n + 1) last (omega arith)))
+      (record {
+        linked = record {
+          mine = refl;
+          theirs = refl;
+          matched = record {
+            value = w;
+            mine = record { formed = linked-formed root last (n + 1) value w full some value16 link16; state = refl; service = refl; none_held = refl; key = link_found root last (n + 1) value w };
+            theirs = record { formed = linked-formed root last' (n' + 1) value w' full' some' value16 link16'; state = refl; service = refl; none_held = refl; key = link_found root last' (n' + 1) value w' ∙ ap (λ z. Some z) same };
+            roles = refl;
+            mine_at = refl;
+            theirs_at = refl;
+          };
+          none_sent = (refl, refl);
+          none_handed = (refl, refl);
+        };
+        mine_given = (((lit< tt, law.check_bytes root value (n' + 1) 2 base.root_is value16 refl), spare_is.bytes), (((lit< tt, law.offer_bytes root answering base.root_is answering_is), spare_is.bytes), (seed_is.bytes, tt)));
+        their_given = (((lit< tt, law.check_bytes root value (n + 1) 1 base.root_is value16 refl), spare_is.bytes), (((lit< tt, (law.pid_byte, law.offer_bytes root seed base.root_is seed_is)), answering_is.bytes), tt));
+        mine_clear = both_gone root last (n + 1) value w some;
+        their_clear = both_gone root last' (n' + 1) value w' some';
+      })
+
+  share : n + 1 ≤ last → n' + 1 ≤ last' → (more : ℕ) → 16 ≤ more → Shared s (activated s Sse meeting) more
+  share h h' more big =
+      let t4 : Turn = stepped (sharing (agreed_suite root last' (n' + 1) value) ConfirmedSse Sse Recipient no_seed (n' + 1)) conf.Established 0 (said_by Sse (vfy_res replied)) in
+      let t5 : Turn = stepped (sharing (agreed_suite root last (n + 1) value) ConfirmedSse Sse Sender seed (n + 1)) conf.Established 0 [] in
+      let told = tell_is s root last (n + 1) Sender seed value more (le-ltb more 16 big) in
+      let told' = tell_is s root last' (n' + 1) Recipient no_seed value more (le-ltb more 16 big) in
+      five s Sse meeting (λ d. Shared s d more) (turn1 Sse) (turn2 Sse) (turn3 Sse) t4 t5 (first Sse) (second Sse (omega arith)) (third Sse (omega arith))
+      (confirm-sse s root last' (n' + 1) room wide value spare (sixteen spare_is) asked replied asked_alike refl (vfy_req-short Sse))
+      (complete-sse s root last (n + 1) room wide value spare (sixteen spare_is) asked replied refl replied_alike seed (vfy_res-short Sse))
+      (record {
+        mine = refl;
+        theirs = refl;
+        mine_in = refl;
+        theirs_in = refl;
+        mine_told = ap (λ t. answers t.answer) told;
+        theirs_told = ap (λ t. answers t.answer) told';
+        long = ap (λ t. length t.reply) told ∙ value16.long;
+        same = ap (λ t. t.reply) told' ∙ sym (ap (λ t. t.reply) told);
+      })
+
+-- any two suites with one root and no key
+as_bare : (v : Service) (x : Meeting) → Ready v x → x ≡ record { mine = bare x.mine.root x.mine.last x.mine.newest; theirs = bare x.mine.root x.theirs.last x.theirs.newest; seed = x.seed; answering = x.answering; spare = x.spare; room = x.room }
+as_bare v x r =
+    let a = r.roots in
+    let b = r.mine_none in
+    let c = r.theirs_none in
+    let m : record { root = x.mine.root; last = x.mine.last; newest = x.mine.newest; live = x.mine.live } ≡ bare x.mine.root x.mine.last x.mine.newest = cc in
+    let t : record { root = x.theirs.root; last = x.theirs.last; newest = x.theirs.newest; live = x.theirs.live } ≡ bare x.mine.root x.theirs.last x.theirs.newest = cc in
+    ap (λ z. record { mine = z; theirs = x.theirs; seed = x.seed; answering = x.answering; spare = x.spare; room = x.room }) m
+    ∙ ap (λ z. record { mine = bare x.mine.root x.mine.last x.mine.newest; theirs = z; seed = x.seed; answering = x.answering; spare = x.spare; room = x.room }) t
+
+their_base : {v : Service} {x : Meeting} → Ready v x → Base x.mine.root x.theirs.last x.theirs.newest
+their_base r = record { root_is = r.mine_formed.root; below = r.theirs_formed.newest; word = r.theirs_formed.last }
+
+pub link_starts : (s : Scheme) → Lawful s → SerialFree s → (x : Meeting) → Ready Sch x → Started s (activated s Sch x)
+link_starts s law free x r =
+    subst (λ z. Started s (activated s Sch z)) (sym (as_bare Sch x r))
+    (link_up s law free x.mine.root x.mine.last x.theirs.last x.mine.newest x.theirs.newest x.room x.seed x.answering x.spare r.seed_is r.answering_is r.spare_is r.enough (base_of r.mine_formed) (their_base r) r.mine_left r.theirs_left)
+
+pub link_succeeds : LinkSucceeds
+link_succeeds s law free x r = (link_starts s law free x r).linked
+
+pub secret_succeeds : SecretSucceeds
+secret_succeeds s law free x r more big =
+    subst (λ z. Shared s (activated s Sse z) more) (sym (as_bare Sse x r))
+    (share s law free x.mine.root x.mine.last x.theirs.last x.mine.newest x.theirs.newest x.room x.seed x.answering x.spare r.seed_is r.answering_is r.spare_is r.enough (base_of r.mine_formed) (their_base r) r.mine_left r.theirs_left more big)
+
+-- an activation is a run of each of the two
+
+new_run : (s : Scheme) (means : Meaning) → IsRun s means (begun means)
+new_run s means = record { calls = []; bytes = tt; model = refl; past = refl }
+
+pub mine_activated : (s : Scheme) (x : Meeting) → Started s (activated s Sch x) → IsRun s x.mine (completes s Sch x)
+mine_activated s x start =
+    let given : End → Call = λ e. frame (last_written e.past) x.spare x.room in
+    run_called s x.mine (given (verifies s Sch x)) start.mine_given.0 (run_called s x.mine (given (replies s Sch x)) start.mine_given.1.0 (run_called s x.mine (invoke Sch s.pid x.seed x.room) start.mine_given.1.1.0 (new_run s x.mine)))
+
+pub theirs_activated : (s : Scheme) (x : Meeting) → Started s (activated s Sch x) → IsRun s x.theirs (verifies s Sch x)
+theirs_activated s x start = run_called s x.theirs (frame (last_written (checks s Sch x).past) x.spare x.room) start.their_given.0 (run_called s x.theirs (frame (last_written (asks s Sch x).past) x.answering x.room) start.their_given.1.0 (new_run s x.theirs))
+
+-- The premises.
+
+pub kinds_serial_free : KindsSerialFree
+kinds_serial_free k = record { checks = λ root value serial serial' role. refl; links = λ root value serial serial' link link'. refl }
+
+pub new_fresh : NewIsFresh
+new_fresh means formed none = record { formed = formed; idle = refl; no_live = none; no_secret = refl; no_link = refl; none_held = refl }
+
+zeros_are : Bytes16 no_seed
+zeros_are = let z : 0 < 256 = lit< tt in record { long = refl; bytes = (z, (z, (z, (z, (z, (z, (z, (z, (z, (z, (z, (z, (z, (z, (z, (z, tt)))))))))))))))) }
+
+pub some_ready : SomeReady
+some_ready =
+    let formed : WellFormed (bare no_seed 2 0) = record { root = zeros_are; last = lit< tt; newest = lit≤ tt; values = tt; serials = tt; apart = tt } in (
+      record { mine = bare no_seed 2 0; theirs = bare no_seed 2 0; seed = no_seed; answering = no_seed; spare = no_seed; room = 255 },
+      record {
+        mine_formed = formed;
+        theirs_formed = formed;
+        roots = refl;
+        mine_none = refl;
+        theirs_none = refl;
+        mine_left = lit≤ tt;
+        theirs_left = lit≤ tt;
+        seed_is = zeros_are;
+        answering_is = zeros_are;
+        spare_is = zeros_are;
+        enough = lit≤ tt;
+      },
+    )
