@@ -4,7 +4,7 @@ use Rattle.std.specs.List.{AllByRecursion}
 use Rattle.std.proofs.lemmas.Bool.{le-ltb, eq-eqb, ne_eqb}
 use Rattle.frame.specs.declared.types.Service.{Service}
 use Rattle.frame.specs.declared.types.Service.TheVariants.{Sse, Sch}
-use Rattle.frame.specs.Frames.{act_req, act_res, vfy_req, vfy_res}
+use Rattle.frame.specs.Frames.{Said, fields, act_req, act_res, vfy_req, vfy_res}
 use Rattle.suite.specs.declared.types.Role.TheVariants.{Sender, Recipient}
 use Rattle.suite.specs.Meanings.{Meaning, Bytes16, WellFormed}
 use Rattle.suite.specs.Schemes.{Scheme, Lawful, ok_role}
@@ -14,22 +14,31 @@ use Rattle.protocol.specs.declared.outcomes.Confirmation.TheVariants as conf
 use Rattle.protocol.specs.Models.{Model, fresh, no_seed}
 use Rattle.protocol.specs.Steps.{said_by}
 use Rattle.protocol.specs.Calls.{Call, invoke, frame, Turn, turn}
-use Rattle.histories.specs.Histories.{History, GivenBytes, entered, answers}
+use Rattle.histories.specs.Histories.{Entry, History, GivenBytes, entered, answers}
 use Rattle.exchanges.specs.Duos.{End, Duo, begun, last_written, Meeting, asks, replies, checks, verifies, completes, activated}
 use Rattle.exchanges.specs.Exchanges.{SerialFree, KindsSerialFree, NewIsFresh, Ready, Linked, LinkSucceeds, Shared, SecretSucceeds, IsRun, SomeReady}
-use Rattle.exchanges.proofs.Shapes.{bare, agreed_suite, linked_suite, Base, base_of, linked-formed, link_found, both_gone, selecting, sharing, session, Clears}
-use Rattle.exchanges.proofs.Turns.{stepped, ask_is, reply_is, check_is, confirm-sse, confirm-sch, complete-sse, complete-sch, tell_is}
+use Rattle.exchanges.proofs.Shapes.{bare, agreed_suite, linked_suite, Base, base_of, linked_formed, link_found, one_gone, both_gone, selecting, sharing, session, Clears}
+use Rattle.exchanges.proofs.Turns.{stepped, ask_is, reply_is, check_is, confirm_sse, confirm_sch, complete_sse, complete_sch, tell_is}
 use Rattle.exchanges.proofs.Records.{run_called}
 
 -- what is proved of an activation follows from what each of its five calls does
 module _ (s : Scheme) (v : Service) (x : Meeting) where
+  abbrev heard : Turn → Turn → Entry
+  heard from to = entered (frame from.reply x.spare x.room) to
+
   abbrev duo : Turn → Turn → Turn → Turn → Turn → Duo
   duo t1 t2 t3 t4 t5 = record {
-    one = record { model = t5.model; past = entered (frame t4.reply x.spare x.room) t5 ∷ entered (frame t2.reply x.spare x.room) t3 ∷ entered (invoke v s.pid x.seed x.room) t1 ∷ [] };
-    other = record { model = t4.model; past = entered (frame t3.reply x.spare x.room) t4 ∷ entered (frame t1.reply x.answering x.room) t2 ∷ [] };
+    one = record { model = t5.model; past = heard t4 t5 ∷ heard t2 t3 ∷ entered (invoke v s.pid x.seed x.room) t1 ∷ [] };
+    other = record { model = t4.model; past = heard t3 t4 ∷ entered (frame t1.reply x.answering x.room) t2 ∷ [] };
   }
 
-  five : (Q : Duo → Type 0) (t1 t2 t3 t4 t5 : Turn) → turn s (fresh x.mine) (invoke v s.pid x.seed x.room) ≡ t1 → turn s (fresh x.theirs) (frame t1.reply x.answering x.room) ≡ t2 → turn s t1.model (frame t2.reply x.spare x.room) ≡ t3 → turn s t2.model (frame t3.reply x.spare x.room) ≡ t4 → turn s t3.model (frame t4.reply x.spare x.room) ≡ t5 → Q (duo t1 t2 t3 t4 t5) → Q (activated s v x)
+  five : (Q : Duo → Type 0) (t1 t2 t3 t4 t5 : Turn)
+      → turn s (fresh x.mine) (invoke v s.pid x.seed x.room) ≡ t1
+      → turn s (fresh x.theirs) (frame t1.reply x.answering x.room) ≡ t2
+      → turn s t1.model (frame t2.reply x.spare x.room) ≡ t3
+      → turn s t2.model (frame t3.reply x.spare x.room) ≡ t4
+      → turn s t3.model (frame t4.reply x.spare x.room) ≡ t5
+      → Q (duo t1 t2 t3 t4 t5) → Q (activated s v x)
   five Q t1 t2 t3 t4 t5 e1 e2 e3 e4 e5 end =
       let h2 : Turn → Turn = λ a. turn s (fresh x.theirs) (frame a.reply x.answering x.room) in
       let h : Turn → Turn → Turn = λ a b. turn s a.model (frame b.reply x.spare x.room) in
@@ -51,8 +60,16 @@ pub record Started (s : Scheme) (d : Duo) : Type 0 where
   pub mine_clear : Clears d.one.model
   pub their_clear : Clears d.other.model
 
+-- and where both have the shared secret that they retrieve
+pub record Told (s : Scheme) (room : ℕ) (d : Duo) : Type 0 where
+  pub shared : Shared s d room
+  pub mine_clear : Clears d.one.model
+  pub their_clear : Clears d.other.model
+
 -- between two suites with one root and no key
-module _ (s : Scheme) (law : Lawful s) (free : SerialFree s) (root : List ℕ) (last last' n n' room : ℕ) (seed answering spare : List ℕ) (seed_is : Bytes16 seed) (answering_is : Bytes16 answering) (spare_is : Bytes16 spare) (enough : 255 ≤ room) (base : Base root last n) (base' : Base root last' n') where
+module _ (s : Scheme) (law : Lawful s) (free : SerialFree s) (root : List ℕ) (last last' n n' room : ℕ) (seed answering spare : List ℕ)
+    (seed_is : Bytes16 seed) (answering_is : Bytes16 answering) (spare_is : Bytes16 spare) (enough : 255 ≤ room)
+    (base : Base root last n) (base' : Base root last' n') where
   abbrev meeting : Meeting
   meeting = record { mine = bare root last n; theirs = bare root last' n'; seed = seed; answering = answering; spare = spare; room = room }
 
@@ -84,17 +101,14 @@ module _ (s : Scheme) (law : Lawful s) (free : SerialFree s) (root : List ℕ) (
   sixteen : {xs : List ℕ} → Bytes16 xs → eqb (length xs) 16 ≡ true
   sixteen {xs} h = eq-eqb (length xs) 16 h.long
 
-  act_req-short : (v : Service) → ltb 255 (length (said_by v (act_req s.pid (s.offer_of root seed)))) ≡ false
-  act_req-short v = let l = law.offer_long root seed base.root_is seed_is in let b = law.offer_bound in le-ltb 255 _ (omega arith)
+  fits : (v : Service) (said : Said) → length (fields said) ≤ 65 → ltb 255 (length (said_by v said)) ≡ false
+  fits v said h = le-ltb 255 (length (said_by v said)) (omega arith)
 
-  act_res-short : (v : Service) → ltb 255 (length (said_by v (act_res (s.offer_of root answering)))) ≡ false
-  act_res-short v = let l = law.offer_long root answering base.root_is answering_is in let b = law.offer_bound in le-ltb 255 _ (omega arith)
+  offer_most : {own : List ℕ} → Bytes16 own → length (s.offer_of root own) ≤ 64
+  offer_most {own} h = let long = law.offer_long root own base.root_is h in let bound = law.offer_bound in omega arith
 
-  vfy_req-short : (v : Service) → ltb 255 (length (said_by v (vfy_req asked))) ≡ false
-  vfy_req-short v = let l = law.check_long root value (n + 1) 1 base.root_is value16 refl in let b = law.check_bound in le-ltb 255 _ (omega arith)
-
-  vfy_res-short : (v : Service) → ltb 255 (length (said_by v (vfy_res replied))) ≡ false
-  vfy_res-short v = let l = law.check_long root value (n' + 1) 2 base.root_is value16 refl in let b = law.check_bound in le-ltb 255 _ (omega arith)
+  check_most : (serial role : ℕ) → ok_role role ≡ true → length (s.check_of root serial value role) ≤ 65
+  check_most serial role ok = let long = law.check_long root value serial role base.root_is value16 ok in let bound = law.check_bound in omega arith
 
   left : (k l : ℕ) → k < l → eqb k l ≡ false
   left k l h = ne_eqb k l (λ e. omega arith)
@@ -113,11 +127,11 @@ module _ (s : Scheme) (law : Lawful s) (free : SerialFree s) (root : List ℕ) (
 
   second : (v : Service) → n' < last' → turn s (fresh (bare root last' n')) (frame (said_by v (act_req s.pid (s.offer_of root seed))) answering room) ≡ turn2 v
   second v h =
-      reply_is s root last' n' room wide v (s.offer_of root seed) answering (sixteen answering_is) (act_req-short v) (law.fits root seed base.root_is seed_is) (left n' last' h)
+      reply_is s root last' n' room wide v (s.offer_of root seed) answering (sixteen answering_is) (fits v (act_req s.pid (s.offer_of root seed)) (let most = offer_most seed_is in omega arith)) (law.fits root seed base.root_is seed_is) (left n' last' h)
       ∙ ap (λ z. stepped (sharing (agreed_suite root last' (n' + 1) z) EstablishedRecipient v Recipient no_seed (n' + 1)) conf.Nothing (n' + 1) (said_by v (act_res (s.offer_of root answering)))) agreed
 
   third : (v : Service) → n < last → turn s (selecting (bare root last n) v seed) (frame (said_by v (act_res (s.offer_of root answering))) spare room) ≡ turn3 v
-  third v h = check_is s root last n room wide v (s.offer_of root answering) seed spare (sixteen spare_is) (sixteen seed_is) (act_res-short v) (law.fits root answering base.root_is answering_is) (left n last h)
+  third v h = check_is s root last n room wide v (s.offer_of root answering) seed spare (sixteen spare_is) (sixteen seed_is) (fits v (act_res (s.offer_of root answering)) (let most = offer_most answering_is in omega arith)) (law.fits root answering base.root_is answering_is) (left n last h)
 
   link_up : n + 2 ≤ last → n' + 2 ≤ last' → Started s (activated s Sch meeting)
   link_up h h' =
@@ -133,16 +147,16 @@ module _ (s : Scheme) (law : Lawful s) (free : SerialFree s) (root : List ℕ) (
       let link16 = law.link_is root value (n + 1) ((n + 1) + 1) base.root_is value16 in
       let link16' = law.link_is root value (n' + 1) ((n' + 1) + 1) base.root_is value16 in
       five s Sch meeting (Started s) (turn1 Sch) (turn2 Sch) (turn3 Sch) t4 t5 (first Sch) (second Sch (omega arith)) (third Sch (omega arith))
-      (confirm-sch s root last' (n' + 1) room wide value spare (sixteen spare_is) asked replied asked_alike refl (vfy_req-short Sch) (left (n' + 1) last' (omega arith)))
-      (complete-sch s root last (n + 1) room wide value spare (sixteen spare_is) asked replied refl replied_alike seed (vfy_res-short Sch) (left (n + 1) last (omega arith)))
+      (confirm_sch s root last' (n' + 1) room wide value spare (sixteen spare_is) asked replied asked_alike refl (fits Sch (vfy_req asked) (check_most (n + 1) 1 refl)) (left (n' + 1) last' (omega arith)))
+      (complete_sch s root last (n + 1) room wide value spare (sixteen spare_is) asked replied refl replied_alike seed (fits Sch (vfy_res replied) (check_most (n' + 1) 2 refl)) (left (n + 1) last (omega arith)))
       (record {
         linked = record {
           mine = refl;
           theirs = refl;
           matched = record {
             value = w;
-            mine = record { formed = linked-formed root last (n + 1) value w full some value16 link16; state = refl; service = refl; none_held = refl; key = link_found root last (n + 1) value w };
-            theirs = record { formed = linked-formed root last' (n' + 1) value w' full' some' value16 link16'; state = refl; service = refl; none_held = refl; key = link_found root last' (n' + 1) value w' ∙ ap (λ z. Some z) same };
+            mine = record { formed = linked_formed root last (n + 1) value w full some value16 link16; confirmed = record { state = refl; service = refl }; none_held = refl; key = link_found root last (n + 1) value w };
+            theirs = record { formed = linked_formed root last' (n' + 1) value w' full' some' value16 link16'; confirmed = record { state = refl; service = refl }; none_held = refl; key = link_found root last' (n' + 1) value w' ∙ ap (λ z. Some z) same };
             roles = refl;
             mine_at = refl;
             theirs_at = refl;
@@ -156,24 +170,28 @@ module _ (s : Scheme) (law : Lawful s) (free : SerialFree s) (root : List ℕ) (
         their_clear = both_gone root last' (n' + 1) value w' some';
       })
 
-  share : n + 1 ≤ last → n' + 1 ≤ last' → (more : ℕ) → 16 ≤ more → Shared s (activated s Sse meeting) more
+  share : n + 1 ≤ last → n' + 1 ≤ last' → (more : ℕ) → 16 ≤ more → Told s more (activated s Sse meeting)
   share h h' more big =
       let t4 : Turn = stepped (sharing (agreed_suite root last' (n' + 1) value) ConfirmedSse Sse Recipient no_seed (n' + 1)) conf.Established 0 (said_by Sse (vfy_res replied)) in
       let t5 : Turn = stepped (sharing (agreed_suite root last (n + 1) value) ConfirmedSse Sse Sender seed (n + 1)) conf.Established 0 [] in
       let told = tell_is s root last (n + 1) Sender seed value more (le-ltb more 16 big) in
       let told' = tell_is s root last' (n' + 1) Recipient no_seed value more (le-ltb more 16 big) in
-      five s Sse meeting (λ d. Shared s d more) (turn1 Sse) (turn2 Sse) (turn3 Sse) t4 t5 (first Sse) (second Sse (omega arith)) (third Sse (omega arith))
-      (confirm-sse s root last' (n' + 1) room wide value spare (sixteen spare_is) asked replied asked_alike refl (vfy_req-short Sse))
-      (complete-sse s root last (n + 1) room wide value spare (sixteen spare_is) asked replied refl replied_alike seed (vfy_res-short Sse))
+      five s Sse meeting (Told s more) (turn1 Sse) (turn2 Sse) (turn3 Sse) t4 t5 (first Sse) (second Sse (omega arith)) (third Sse (omega arith))
+      (confirm_sse s root last' (n' + 1) room wide value spare (sixteen spare_is) asked replied asked_alike refl (fits Sse (vfy_req asked) (check_most (n + 1) 1 refl)))
+      (complete_sse s root last (n + 1) room wide value spare (sixteen spare_is) asked replied refl replied_alike seed (fits Sse (vfy_res replied) (check_most (n' + 1) 2 refl)))
       (record {
-        mine = refl;
-        theirs = refl;
-        mine_in = refl;
-        theirs_in = refl;
-        mine_told = ap (λ t. answers t.answer) told;
-        theirs_told = ap (λ t. answers t.answer) told';
-        long = ap (λ t. length t.reply) told ∙ value16.long;
-        same = ap (λ t. t.reply) told' ∙ sym (ap (λ t. t.reply) told);
+        shared = record {
+          mine = refl;
+          theirs = refl;
+          mine_in = record { state = refl; service = refl };
+          theirs_in = record { state = refl; service = refl };
+          mine_told = ap (λ t. answers t.answer) told;
+          theirs_told = ap (λ t. answers t.answer) told';
+          long = ap (λ t. length t.reply) told ∙ value16.long;
+          same = ap (λ t. t.reply) told' ∙ sym (ap (λ t. t.reply) told);
+        };
+        mine_clear = one_gone root last (n + 1) value (omega arith);
+        their_clear = one_gone root last' (n' + 1) value (omega arith);
       })
 
 -- any two suites with one root and no key
@@ -193,15 +211,21 @@ their_base r = record { root_is = r.mine_formed.root; below = r.theirs_formed.ne
 pub link_starts : (s : Scheme) → Lawful s → SerialFree s → (x : Meeting) → Ready Sch x → Started s (activated s Sch x)
 link_starts s law free x r =
     subst (λ z. Started s (activated s Sch z)) (sym (as_bare Sch x r))
-    (link_up s law free x.mine.root x.mine.last x.theirs.last x.mine.newest x.theirs.newest x.room x.seed x.answering x.spare r.seed_is r.answering_is r.spare_is r.enough (base_of r.mine_formed) (their_base r) r.mine_left r.theirs_left)
+    (link_up s law free x.mine.root x.mine.last x.theirs.last x.mine.newest x.theirs.newest x.room x.seed x.answering x.spare
+    r.seed_is r.answering_is r.spare_is r.enough (base_of r.mine_formed) (their_base r) r.mine_left r.theirs_left)
 
 pub link_succeeds : LinkSucceeds
 link_succeeds s law free x r = (link_starts s law free x r).linked
 
+pub secret_told : (s : Scheme) → Lawful s → SerialFree s → (x : Meeting) → Ready Sse x → (room : ℕ) → 16 ≤ room
+    → Told s room (activated s Sse x)
+secret_told s law free x r more big =
+    subst (λ z. Told s more (activated s Sse z)) (sym (as_bare Sse x r))
+    (share s law free x.mine.root x.mine.last x.theirs.last x.mine.newest x.theirs.newest x.room x.seed x.answering x.spare
+    r.seed_is r.answering_is r.spare_is r.enough (base_of r.mine_formed) (their_base r) r.mine_left r.theirs_left more big)
+
 pub secret_succeeds : SecretSucceeds
-secret_succeeds s law free x r more big =
-    subst (λ z. Shared s (activated s Sse z) more) (sym (as_bare Sse x r))
-    (share s law free x.mine.root x.mine.last x.theirs.last x.mine.newest x.theirs.newest x.room x.seed x.answering x.spare r.seed_is r.answering_is r.spare_is r.enough (base_of r.mine_formed) (their_base r) r.mine_left r.theirs_left more big)
+secret_succeeds s law free x r more big = (secret_told s law free x r more big).shared
 
 -- an activation is a run of each of the two
 

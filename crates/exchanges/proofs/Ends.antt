@@ -1,6 +1,7 @@
 -- What two users get whose new entities are linked, and that no key is left once they part.
-use Rattle.std.proofs.Common.{◌≡◌, ℕ, ◌+◌, ◌≤◌, List, [], ◌∷◌, ◌++◌, length, None, sym, refl, ap, ◌∙◌, subst, arith}
-use Rattle.frame.specs.declared.types.Service.TheVariants.{Sch}
+use Rattle.std.proofs.Common.{◌≡◌, ℕ, ◌+◌, ◌≤◌, List, [], ◌∷◌, ◌++◌, length, None, sym, refl, ap, ◌∙◌, subst, arith, lit≤}
+use Rattle.frame.specs.declared.types.Service.{Service}
+use Rattle.frame.specs.declared.types.Service.TheVariants.{Sse, Sch}
 use Rattle.frame.specs.Frames.{tmn}
 use Rattle.suite.specs.Meanings.{Bytes16}
 use Rattle.suite.specs.Schemes.{Scheme, Lawful}
@@ -8,18 +9,21 @@ use Rattle.protocol.specs.declared.outcomes.Confirmation.TheVariants as conf
 use Rattle.protocol.specs.Models.{Model, idle}
 use Rattle.protocol.specs.Steps.{said_by}
 use Rattle.protocol.specs.Calls.{terminate, frame, Turn, turn, ended}
-use Rattle.histories.specs.Histories.{entered, sent, handed}
-use Rattle.exchanges.specs.Duos.{Duo, Meeting, activated, Line, talked, said_here, said_there, parted}
-use Rattle.exchanges.specs.Exchanges.{SerialFree, Ready, opposite, Matched, AllFit, TalkSucceeds, Parted, PartingSucceeds, EndSucceeds}
-use Rattle.exchanges.proofs.Shapes.{session, Clears}
+use Rattle.histories.specs.Histories.{History, entered, sent, handed}
+use Rattle.exchanges.specs.Duos.{Duo, Meeting, turned, activated, Line, talked, said_here, said_there, parted}
+use Rattle.exchanges.specs.Exchanges.{Ready, Confirmed, AllFit, TalkSucceeds, Parted, PartingSucceeds, NoneLeft, EndsWell, LinkEnds, SecretEnds}
+use Rattle.exchanges.proofs.Shapes.{Clears}
 use Rattle.exchanges.proofs.Turns.{part_is, parted_is}
-use Rattle.exchanges.proofs.Records.{SameKeys, duo, as_session, Goes, talk_goes}
-use Rattle.exchanges.proofs.Activations.{Started, link_starts, mine_activated, theirs_activated}
+use Rattle.exchanges.proofs.Records.{SameKeys, duo, Goes, talk_goes}
+use Rattle.exchanges.proofs.Activations.{Started, link_starts, secret_told, mine_activated, theirs_activated}
 
 -- A talk after an activation.
 
-talk_of_new : (s : Scheme) → Lawful s → (x : Meeting) → Ready Sch x → Started s (activated s Sch x) → (talk : List Line) → AllFit talk → s.first + length talk ≤ s.final → Goes s (s.first + length talk) (activated s Sch x) talk (talked s x (activated s Sch x) talk)
-talk_of_new s law x r start talk fit most = let low : s.first ≤ s.first = omega arith in talk_goes s law x r.spare_is r.enough s.first (activated s Sch x) low start.linked.matched talk fit most
+talk_of_new : (s : Scheme) → Lawful s → (x : Meeting) → Ready Sch x → Started s (activated s Sch x) → (talk : List Line) → AllFit talk
+    → s.first + length talk ≤ s.final → Goes s (s.first + length talk) (activated s Sch x) talk (talked s x (activated s Sch x) talk)
+talk_of_new s law x r start talk fit most =
+    let low : s.first ≤ s.first = omega arith in
+    talk_goes s law x r.spare_is r.enough s.first (activated s Sch x) low start.linked.matched talk fit most
 
 pub talk_succeeds : TalkSucceeds
 talk_succeeds s law free x r talk fit most =
@@ -43,37 +47,52 @@ record LeftIdle (d e : Duo) : Type 0 where
   mine : e.one.model ≡ idle d.one.model
   theirs : e.other.model ≡ idle d.other.model
 
-parted_idle : (s : Scheme) (x : Meeting) → Bytes16 x.spare → 255 ≤ x.room → (number : ℕ) (d : Duo) → Matched number d → LeftIdle d (parted s x d)
-parted_idle s x spare enough number d M =
+left_idle : (s : Scheme) (x : Meeting) → Bytes16 x.spare → 255 ≤ x.room → (v : Service) (d : Duo)
+    → Confirmed v d.one.model → Confirmed v d.other.model → LeftIdle d (parted s x d)
+left_idle s x spare enough v d mine theirs =
     let a = d.one.model in
     let b = d.other.model in
-    let m : Model = session a.means a.role a.seed number [] a.secret a.link in
-    let m' : Model = session b.means (opposite a.role) b.seed number [] b.secret b.link in
-    let e : a ≡ m = as_session a M.value a.role number M.mine refl M.mine_at in
-    let e' : b ≡ m' = as_session b M.value (opposite a.role) number M.theirs M.roles M.theirs_at in
-    let ends : Turn = ended m conf.Terminated (said_by Sch (tmn [])) None in
-    let ends' : Turn = ended m' conf.Terminated [] None in
-    let first : turn s m (terminate x.room) ≡ ends = part_is s a.means a.role a.seed number a.secret a.link x.room enough in
-    let second : turn s m' (frame (said_by Sch (tmn [])) x.spare x.room) ≡ ends' = parted_is s b.means (opposite a.role) b.seed number b.secret b.link x.room enough x.spare spare.long in
-    let after : Turn → Turn → Duo = λ y z. duo y.model (entered (terminate x.room) y ∷ d.one.past) z.model (entered (frame y.reply x.spare x.room) z ∷ d.other.past) in
-    let P : Model → Model → Turn → Turn → Type 0 = λ k l y z. LeftIdle (duo k d.one.past l d.other.past) (after y z) in
-    let hears : Model → Turn → Turn = λ l z. turn s l (frame z.reply x.spare x.room) in
-    let end : P m m' ends ends' = record { parted = record { mine = refl; theirs = refl; mine_idle = refl; theirs_idle = refl }; mine = refl; theirs = refl } in
-    let near : P m m' (turn s m (terminate x.room)) (hears m' (turn s m (terminate x.room))) = subst (λ z. P m m' z (hears m' z)) (sym first) (subst (λ z. P m m' ends z) (sym second) end) in
-    subst (λ y. P y b (turn s y (terminate x.room)) (hears b (turn s y (terminate x.room)))) (sym e) (subst (λ z. P m z (turn s m (terminate x.room)) (hears z (turn s m (terminate x.room)))) (sym e') near)
+    let ends : Turn = ended a conf.Terminated (said_by v (tmn [])) None in
+    let ends' : Turn = ended b conf.Terminated [] None in
+    let first : turn s a (terminate x.room) ≡ ends = part_is s a x.room enough v mine in
+    let second : turn s b (frame (said_by v (tmn [])) x.spare x.room) ≡ ends' = parted_is s b x.room enough v x.spare theirs spare in
+    let past : Turn → History = λ y. entered (terminate x.room) y ∷ d.one.past in
+    let past' : Turn → Turn → History = λ y z. entered (frame y.reply x.spare x.room) z ∷ d.other.past in
+    let P : Turn → Turn → Type 0 = λ y z. LeftIdle d (duo y.model (past y) z.model (past' y z)) in
+    let parts : Parted (duo (idle a) (past ends) (idle b) (past' ends ends')) = record { mine = refl; theirs = refl; mine_idle = refl; theirs_idle = refl } in
+    let end : P ends ends' = record { parted = parts; mine = refl; theirs = refl } in
+    subst (λ y. P y (turn s b (frame y.reply x.spare x.room))) (sym first) (subst (λ z. P ends z) (sym second) end)
 
 pub parting_succeeds : PartingSucceeds
-parting_succeeds s x spare enough number d M = (parted_idle s x spare enough number d M).parted
+parting_succeeds s x spare enough v d mine theirs = (left_idle s x spare enough v d mine theirs).parted
 
 clear_after : {m m' : Model} → SameKeys m m' → Clears m → Clears m'
 clear_after k h = rw (k.means, k.link, k.secret) h
 
-live_after : {m m' m'' : Model} → SameKeys m m' → Clears m → m'' ≡ idle m' → m''.means.live ≡ []
-live_after k h e = ap (λ z. z.means.live) e ∙ clear_after k h
+none_left : {d e : Duo} → LeftIdle d e → Clears d.one.model → Clears d.other.model → NoneLeft e
+none_left p mine theirs = (ap (λ z. z.means.live) p.mine ∙ mine, ap (λ z. z.means.live) p.theirs ∙ theirs)
 
-pub end_succeeds : EndSucceeds
-end_succeeds s law free x r talk fit most =
+ends_well : (s : Scheme) (x : Meeting) → Bytes16 x.spare → 255 ≤ x.room → (v : Service) (d : Duo)
+    → Confirmed v d.one.model → Confirmed v d.other.model → Clears d.one.model → Clears d.other.model → EndsWell s x d
+ends_well s x spare enough v d mine theirs mine_clear their_clear =
+    let p = left_idle s x spare enough v d mine theirs in
+    let q = left_idle s x spare enough v (turned d) theirs mine in
+    record {
+      mine = p.parted;
+      mine_gone = none_left p mine_clear their_clear;
+      theirs = q.parted;
+      theirs_gone = none_left q their_clear mine_clear;
+    }
+
+pub link_ends : LinkEnds
+link_ends s law free x r talk fit most =
     let start = link_starts s law free x r in
     let g = talk_of_new s law x r start talk fit most in
-    let p = parted_idle s x r.spare_is r.enough (s.first + length talk) (talked s x (activated s Sch x) talk) g.matched in
-    (p.parted, (live_after g.mine_keys start.mine_clear p.mine, live_after g.their_keys start.their_clear p.theirs))
+    let M = g.matched in
+    ends_well s x r.spare_is r.enough Sch (talked s x (activated s Sch x) talk) M.mine.confirmed M.theirs.confirmed
+    (clear_after g.mine_keys start.mine_clear) (clear_after g.their_keys start.their_clear)
+
+pub secret_ends : SecretEnds
+secret_ends s law free x r =
+    let told = secret_told s law free x r 16 (lit≤ tt) in
+    ends_well s x r.spare_is r.enough Sse (activated s Sse x) told.shared.mine_in told.shared.theirs_in told.mine_clear told.their_clear

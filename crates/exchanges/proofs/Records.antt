@@ -14,7 +14,7 @@ use Rattle.protocol.specs.Steps.{said_by}
 use Rattle.protocol.specs.Calls.{Call, send, retrieve_data, frame, Turn, turn}
 use Rattle.histories.specs.Histories.{History, GivenBytes, entered, after, confirms, answers, sent, handed}
 use Rattle.exchanges.specs.Duos.{End, Duo, called, last_answer, last_written, Meeting, hears, Line, here, there, turned, passed, talked, said_here, said_there}
-use Rattle.exchanges.specs.Exchanges.{opposite, InLink, Matched, Fit, AllFit, HandedOver, RecordsPass, RecordPasses, IsRun}
+use Rattle.exchanges.specs.Exchanges.{opposite, Confirmed, InLink, Matched, Fit, AllFit, HandedOver, RecordsPass, RecordPasses, IsRun}
 use Rattle.exchanges.proofs.Shapes.{session, value_is}
 use Rattle.exchanges.proofs.Turns.{stepped, role_ok, send_is, hear_is, data_is}
 
@@ -33,10 +33,16 @@ run_called s means {e} c given r = record {
   calls = c ∷ r.calls;
   bytes = (given, r.bytes);
   model = ap (λ z. (turn s z c).model) r.model;
-  past = ap (λ z. entered c (turn s z c) ∷ e.past) r.model ∙ ap (λ z. entered c (turn s (after s (fresh means) r.calls) c) ∷ z) r.past;
+  past =
+      ap (λ z. entered c (turn s z c) ∷ e.past) r.model
+      ∙ ap (λ z. entered c (turn s (after s (fresh means) r.calls) c) ∷ z) r.past;
 }
 
 -- One record, between entities that are written out.
+
+in_sch : {means : Meaning} {role : Role} {seed : List ℕ} {number : ℕ} {held : List ℕ} {secret link : ℕ}
+    → Confirmed Sch (session means role seed number held secret link)
+in_sch = record { state = refl; service = refl }
 
 abbrev pub duo : Model → History → Model → History → Duo
 duo m h m' h' = record { one = record { model = m; past = h }; other = record { model = m'; past = h' } }
@@ -57,17 +63,22 @@ record Passed (number : ℕ) (d : Duo) (plain : List ℕ) (e : Duo) : Type 0 whe
   mine_keys : SameKeys d.one.model e.one.model
   their_keys : SameKeys d.other.model e.other.model
 
-pub as_session : (m : Model) (value : List ℕ) (role : Role) (number : ℕ) → InLink value m → m.role ≡ role → m.number ≡ number → m ≡ session m.means role m.seed number [] m.secret m.link
+-- an entity in a link session, written out
+as_session : (m : Model) (value : List ℕ) (role : Role) (number : ℕ) → InLink value m → m.role ≡ role → m.number ≡ number
+    → m ≡ session m.means role m.seed number [] m.secret m.link
 as_session m value role number i er en =
-    let es = i.state in
-    let ev = i.service in
-    let eh = i.none_held in
-    let whole : record { means = m.means; state = m.state; service = m.service; role = m.role; seed = m.seed; number = m.number; held = m.held; secret = m.secret; link = m.link } ≡ session m.means role m.seed number [] m.secret m.link = cc in
+    let state = i.confirmed.state in
+    let service = i.confirmed.service in
+    let none = i.none_held in
+    let whole : record m { state = m.state } ≡ session m.means role m.seed number [] m.secret m.link = cc in
     whole
 
 module _ (s : Scheme) (law : Lawful s) (x : Meeting) (spare : Bytes16 x.spare) (enough : 255 ≤ x.room) where
-  pass_session : (means means' : Meaning) (role : Role) (seed seed' : List ℕ) (number secret secret' link link' : ℕ) (value plain : List ℕ) (h h' : History) → WellFormed means → WellFormed means' → Fit plain → s.first ≤ number → number < s.final → value_in means.live LinkKey link ≡ Some value → value_in means'.live LinkKey link' ≡ Some value →
-      let d = duo (session means role seed number [] secret link) h (session means' (opposite role) seed' number [] secret' link') h' in Passed number d plain (passed s x d plain)
+  pass_session : (means means' : Meaning) (role : Role) (seed seed' : List ℕ) (number secret secret' link link' : ℕ) (value plain : List ℕ)
+      (h h' : History) → WellFormed means → WellFormed means' → Fit plain → s.first ≤ number → number < s.final
+      → value_in means.live LinkKey link ≡ Some value → value_in means'.live LinkKey link' ≡ Some value
+      → let d = duo (session means role seed number [] secret link) h (session means' (opposite role) seed' number [] secret' link') h' in
+      Passed number d plain (passed s x d plain)
   pass_session means means' role seed seed' number secret secret' link link' value plain h h' formed formed' fit low below key key' =
       let payload : List ℕ = s.seal_of means.root link value (role_byte role) (number + 1) plain in
       let m : Model = session means role seed number [] secret link in
@@ -78,22 +89,29 @@ module _ (s : Scheme) (law : Lawful s) (x : Meeting) (spare : Bytes16 x.spare) (
       let sends : Turn = stepped (session means role seed (number + 1) [] secret link) conf.DataSent 0 (said_by Sch (enc payload)) in
       let takes : Turn = stepped (session means' (opposite role) seed' (number + 1) plain secret' link') conf.DataAvailable 0 [] in
       let gives : Turn = stepped (session means' (opposite role) seed' (number + 1) [] secret' link') conf.Nothing 0 plain in
-      let P : Turn → Turn → Turn → Type 0 = λ a b c. Passed number d plain (duo a.model (entered (send plain x.room) a ∷ h) c.model (entered (retrieve_data x.room) c ∷ entered (frame a.reply x.spare x.room) b ∷ h')) in
+      let past : Turn → History = λ a. entered (send plain x.room) a ∷ h in
+      let past' : Turn → Turn → Turn → History = λ a b c. entered (retrieve_data x.room) c ∷ entered (frame a.reply x.spare x.room) b ∷ h' in
+      let P : Turn → Turn → Turn → Type 0 = λ a b c. Passed number d plain (duo a.model (past a) c.model (past' a b c)) in
       let over = law.overhead_bound in
       let value16 : Bytes16 value = value_is means.live LinkKey link value formed.values key in
       let ok = role_ok role in
       let can : Sealable s (number + 1) plain = record { some = some; most = most; bytes = fit.bytes; low = omega arith; high = omega arith } in
-      let size : length payload ≡ length plain + s.overhead = law.seal_long means.root value plain link (role_byte role) (number + 1) formed.root value16 ok in
+      let size : length payload ≡ length plain + s.overhead =
+          law.seal_long means.root value plain link (role_byte role) (number + 1) formed.root value16 ok in
       let short : length payload ≤ 254 = omega arith in
-      let opens : s.open_of means'.root link' value payload ≡ Some (role_byte role, number + 1, plain) = law.opens means.root means'.root value plain link link' (role_byte role) (number + 1) formed.root formed'.root value16 ok can in
-      let first : turn s m (send plain x.room) ≡ sends = send_is s law means role seed number secret link x.room value plain enough some most [] key below in
-      let second : turn s m' (frame (said_by Sch (enc payload)) x.spare x.room) ≡ takes = hear_is s law means' role seed' number secret' link' x.room value plain enough some most payload x.spare spare.long short key' below opens in
-      let third : turn s takes.model (retrieve_data x.room) ≡ gives = data_is s law means' role seed' (number + 1) secret' link' x.room value plain enough some most (opposite role) in
+      let opens : s.open_of means'.root link' value payload ≡ Some (role_byte role, number + 1, plain) =
+          law.opens means.root means'.root value plain link link' (role_byte role) (number + 1) formed.root formed'.root value16 ok can in
+      let first : turn s m (send plain x.room) ≡ sends =
+          send_is s law means role seed number secret link x.room value plain enough some most [] key below in
+      let second : turn s m' (frame (said_by Sch (enc payload)) x.spare x.room) ≡ takes =
+          hear_is s law means' role seed' number secret' link' x.room value plain enough some most payload x.spare spare.long short key' below opens in
+      let third : turn s takes.model (retrieve_data x.room) ≡ gives =
+          data_is s law means' role seed' (number + 1) secret' link' x.room value plain enough some most (opposite role) in
       let end : P sends takes gives = record {
         matched = record {
           value = value;
-          mine = record { formed = formed; state = refl; service = refl; none_held = refl; key = key };
-          theirs = record { formed = formed'; state = refl; service = refl; none_held = refl; key = key' };
+          mine = record { formed = formed; confirmed = in_sch; none_held = refl; key = key };
+          theirs = record { formed = formed'; confirmed = in_sch; none_held = refl; key = key' };
           roles = refl;
           mine_at = refl;
           theirs_at = refl;
@@ -114,10 +132,13 @@ module _ (s : Scheme) (law : Lawful s) (x : Meeting) (spare : Bytes16 x.spare) (
       } in
       let hear : Turn → Turn = λ z. turn s m' (frame z.reply x.spare x.room) in
       let retrieve : Turn → Turn = λ z. turn s z.model (retrieve_data x.room) in
-      subst (λ z. P z (hear z) (retrieve (hear z))) (sym first) (subst (λ z. P sends z (retrieve z)) (sym second) (subst (λ z. P sends takes z) (sym third) end))
+      subst (λ z. P z (hear z) (retrieve (hear z))) (sym first)
+      (subst (λ z. P sends z (retrieve z)) (sym second)
+      (subst (λ z. P sends takes z) (sym third) end))
 
   -- and between any two that are matched
-  pass : (number : ℕ) (d : Duo) (plain : List ℕ) → Matched number d → Fit plain → s.first ≤ number → number < s.final → Passed number d plain (passed s x d plain)
+  pass : (number : ℕ) (d : Duo) (plain : List ℕ) → Matched number d → Fit plain → s.first ≤ number → number < s.final
+      → Passed number d plain (passed s x d plain)
   pass number d plain M fit low below =
       let a = d.one.model in
       let b = d.other.model in
@@ -125,7 +146,10 @@ module _ (s : Scheme) (law : Lawful s) (x : Meeting) (spare : Bytes16 x.spare) (
       let e : a ≡ lit = as_session a M.value a.role number M.mine refl M.mine_at in
       let e' : b ≡ session b.means (opposite a.role) b.seed number [] b.secret b.link = as_session b M.value (opposite a.role) number M.theirs M.roles M.theirs_at in
       let P : Model → Model → Type 0 = λ y z. let c = duo y d.one.past z d.other.past in Passed number c plain (passed s x c plain) in
-      subst (λ y. P y b) (sym e) (subst (λ z. P lit z) (sym e') (pass_session a.means b.means a.role a.seed b.seed number a.secret b.secret a.link b.link M.value plain d.one.past d.other.past M.mine.formed M.theirs.formed fit low below M.mine.key M.theirs.key))
+      subst (λ y. P y b) (sym e)
+      (subst (λ z. P lit z) (sym e')
+      (pass_session a.means b.means a.role a.seed b.seed number a.secret b.secret a.link b.link M.value plain d.one.past d.other.past
+      M.mine.formed M.theirs.formed fit low below M.mine.key M.theirs.key))
 
 -- Many records.
 
@@ -152,10 +176,16 @@ turn_matched number d M = record {
   theirs_at = M.mine_at;
 }
 
-turn_goes : {s : Scheme} {k : ℕ} (plain : List ℕ) {d e : Duo} → Goes s k (turned d) (here plain ∷ []) e → Goes s k d (there plain ∷ []) (turned e)
+turn_goes : {s : Scheme} {k : ℕ} (plain : List ℕ) {d e : Duo} → Goes s k (turned d) (here plain ∷ []) e
+    → Goes s k d (there plain ∷ []) (turned e)
 turn_goes {k} plain {e} g = record {
   matched = turn_matched k e g.matched;
-  over = record { sent_here = g.over.sent_there; handed_there = g.over.handed_here; sent_there = g.over.sent_here; handed_here = g.over.handed_there };
+  over = record {
+    sent_here = g.over.sent_there;
+    handed_there = g.over.handed_here;
+    sent_there = g.over.sent_here;
+    handed_here = g.over.handed_there;
+  };
   mine_keys = g.their_keys;
   their_keys = g.mine_keys;
   mine_run = g.their_run;
@@ -174,13 +204,18 @@ there_first (here plain) later = refl
 there_first (there plain) later = refl
 
 -- what the one sent, or the other, of a first record and of those that come later
-joined_here : (r : Line) (later : List Line) (a : List (List ℕ)) {b c : List (List ℕ)} → b ≡ a ++ said_here (r ∷ []) → c ≡ b ++ said_here later → c ≡ a ++ said_here (r ∷ later)
-joined_here r later a p q = after_both a (said_here (r ∷ [])) (said_here later) p q ∙ ap (λ z. a ++ z) (here_first r later)
+joined_here : (r : Line) (later : List Line) (a : List (List ℕ)) {b c : List (List ℕ)} → b ≡ a ++ said_here (r ∷ []) → c ≡ b ++ said_here later
+    → c ≡ a ++ said_here (r ∷ later)
+joined_here r later a p q =
+    after_both a (said_here (r ∷ [])) (said_here later) p q ∙ ap (λ z. a ++ z) (here_first r later)
 
-joined_there : (r : Line) (later : List Line) (a : List (List ℕ)) {b c : List (List ℕ)} → b ≡ a ++ said_there (r ∷ []) → c ≡ b ++ said_there later → c ≡ a ++ said_there (r ∷ later)
-joined_there r later a p q = after_both a (said_there (r ∷ [])) (said_there later) p q ∙ ap (λ z. a ++ z) (there_first r later)
+joined_there : (r : Line) (later : List Line) (a : List (List ℕ)) {b c : List (List ℕ)} → b ≡ a ++ said_there (r ∷ []) → c ≡ b ++ said_there later
+    → c ≡ a ++ said_there (r ∷ later)
+joined_there r later a p q =
+    after_both a (said_there (r ∷ [])) (said_there later) p q ∙ ap (λ z. a ++ z) (there_first r later)
 
-joined : (r : Line) (later : List Line) {s : Scheme} {k l : ℕ} {d e f : Duo} → Goes s k d (r ∷ []) e → Goes s l e later f → Goes s l d (r ∷ later) f
+joined : (r : Line) (later : List Line) {s : Scheme} {k l : ℕ} {d e f : Duo} → Goes s k d (r ∷ []) e → Goes s l e later f
+    → Goes s l d (r ∷ later) f
 joined r later {d} g h = record {
   matched = h.matched;
   over = record {
@@ -198,7 +233,12 @@ joined r later {d} g h = record {
 none_said : (s : Scheme) (number : ℕ) (d : Duo) → Matched number d → Goes s number d [] d
 none_said s number d M = record {
   matched = M;
-  over = record { sent_here = sym (append-nil _); handed_there = sym (append-nil _); sent_there = sym (append-nil _); handed_here = sym (append-nil _) };
+  over = record {
+    sent_here = sym (append-nil _);
+    handed_there = sym (append-nil _);
+    sent_there = sym (append-nil _);
+    handed_here = sym (append-nil _);
+  };
   mine_keys = record { means = refl; secret = refl; link = refl };
   their_keys = record { means = refl; secret = refl; link = refl };
   mine_run = λ means r. r;
@@ -209,7 +249,8 @@ at_number : {s : Scheme} {n k : ℕ} {d e : Duo} {talk : List Line} → n ≡ k 
 at_number {s} {d} {e} {talk} same g = subst (λ z. Goes s z d talk e) same g
 
 module _ (s : Scheme) (law : Lawful s) (x : Meeting) (spare : Bytes16 x.spare) (enough : 255 ≤ x.room) where
-  line_goes : (number : ℕ) (d : Duo) (plain : List ℕ) → Matched number d → Fit plain → s.first ≤ number → number < s.final → Goes s (number + 1) d (here plain ∷ []) (passed s x d plain)
+  line_goes : (number : ℕ) (d : Duo) (plain : List ℕ) → Matched number d → Fit plain → s.first ≤ number → number < s.final
+      → Goes s (number + 1) d (here plain ∷ []) (passed s x d plain)
   line_goes number d plain M fit low below =
       let p = pass s law x spare enough number d plain M fit low below in
       let heard : Call = frame (last_written (called s d.one (send plain x.room)).past) x.spare x.room in
@@ -222,7 +263,8 @@ module _ (s : Scheme) (law : Lawful s) (x : Meeting) (spare : Bytes16 x.spare) (
         their_run = λ means r. run_called s means (retrieve_data x.room) tt (run_called s means heard (p.bytes, spare.bytes) r);
       }
 
-  pub talk_goes : (number : ℕ) (d : Duo) → s.first ≤ number → Matched number d → (talk : List Line) → AllFit talk → number + length talk ≤ s.final → Goes s (number + length talk) d talk (talked s x d talk)
+  pub talk_goes : (number : ℕ) (d : Duo) → s.first ≤ number → Matched number d → (talk : List Line) → AllFit talk
+      → number + length talk ≤ s.final → Goes s (number + length talk) d talk (talked s x d talk)
   talk_goes number d low M [] fit most = at_number (omega arith) (none_said s number d M)
   talk_goes number d low M (here plain ∷ later) fit most =
       let g = line_goes number d plain M fit.0 (omega arith) (omega arith) in
@@ -234,7 +276,9 @@ module _ (s : Scheme) (law : Lawful s) (x : Meeting) (spare : Bytes16 x.spare) (
       at_number (omega arith) (joined (there plain) later g h)
 
 pub records_pass : RecordsPass
-records_pass s law x spare enough number d low M talk fit most = let g = talk_goes s law x spare enough number d low M talk fit most in (g.matched, g.over)
+records_pass s law x spare enough number d low M talk fit most =
+    let g = talk_goes s law x spare enough number d low M talk fit most in
+    (g.matched, g.over)
 
 pub record_passes : RecordPasses
 record_passes s law x spare enough number d low below M plain fit =

@@ -11,7 +11,7 @@ use Rattle.suite.specs.declared.types.KeyKind.TheVariants.{SharedSecret, LinkKey
 use Rattle.suite.specs.Meanings.{Key, Meaning, Bytes16, WellFormed, same_kind, value_in}
 use Rattle.protocol.specs.declared.states.State.{State}
 use Rattle.protocol.specs.declared.states.State.TheVariants.{Select, ConfirmedSch}
-use Rattle.protocol.specs.Models.{Model, idle, without_key}
+use Rattle.protocol.specs.Models.{Model, fresh, idle, without_key}
 
 -- Suites.
 
@@ -30,7 +30,12 @@ agreed_suite root last serial value = record { root = root; last = last; newest 
 
 -- with a link key too, under the next serial
 abbrev pub linked_suite : List ℕ → ℕ → ℕ → List ℕ → List ℕ → Meaning
-linked_suite root last serial value link = record { root = root; last = last; newest = serial + 1; live = secret_key serial value ∷ link_key (serial + 1) link ∷ [] }
+linked_suite root last serial value link = record {
+  root = root;
+  last = last;
+  newest = serial + 1;
+  live = secret_key serial value ∷ link_key (serial + 1) link ∷ [];
+}
 
 -- what two entities that meet have in their suites
 pub record Base (root : List ℕ) (last newest : ℕ) : Type 0 where
@@ -41,8 +46,9 @@ pub record Base (root : List ℕ) (last newest : ℕ) : Type 0 where
 pub base_of : {means : Meaning} → WellFormed means → Base means.root means.last means.newest
 base_of f = record { root_is = f.root; below = f.newest; word = f.last }
 
-pub linked-formed : (root : List ℕ) (last serial : ℕ) (value link : List ℕ) → Base root last (serial + 1) → 0 < serial → Bytes16 value → Bytes16 link → WellFormed (linked_suite root last serial value link)
-linked-formed root last serial value link base some v l =
+pub linked_formed : (root : List ℕ) (last serial : ℕ) (value link : List ℕ) → Base root last (serial + 1) → 0 < serial
+    → Bytes16 value → Bytes16 link → WellFormed (linked_suite root last serial value link)
+linked_formed root last serial value link base some v l =
     let low : 1 ≤ serial = some in
     let next : 1 ≤ serial + 1 = omega arith in
     let below : serial ≤ serial + 1 = omega arith in
@@ -60,24 +66,37 @@ linked-formed root last serial value link base some v l =
 same_value : {x y : List ℕ} → ◌≡◌ {A = Option (List ℕ)} (Some x) (Some y) → x ≡ y
 same_value e = cc
 
-first_is : (b : Bool) (one value : List ℕ) (rest : Option (List ℕ)) → Bytes16 one → (rest ≡ Some value → Bytes16 value) → cond b (Some one) rest ≡ Some value → Bytes16 value
+first_is : (b : Bool) (one value : List ℕ) (rest : Option (List ℕ)) → Bytes16 one → (rest ≡ Some value → Bytes16 value)
+    → cond b (Some one) rest ≡ Some value → Bytes16 value
 first_is true one value rest h k e = subst Bytes16 (same_value e) h
 first_is false one value rest h k e = k e
 
 -- the value of a live key has sixteen bytes
-pub value_is : (keys : List Key) (kind : KeyKind) (serial : ℕ) (value : List ℕ) → AllByRecursion (λ k. Bytes16 k.value) keys → value_in keys kind serial ≡ Some value → Bytes16 value
+pub value_is : (keys : List Key) (kind : KeyKind) (serial : ℕ) (value : List ℕ) → AllByRecursion (λ k. Bytes16 k.value) keys
+    → value_in keys kind serial ≡ Some value → Bytes16 value
 value_is [] kind serial value all e = absurd (cc)
-value_is (k ∷ keys) kind serial value all e = first_is (eqb k.serial serial && same_kind k.kind kind) k.value value (value_in keys kind serial) all.0 (value_is keys kind serial value all.1) e
+value_is (k ∷ keys) kind serial value all e =
+    first_is (eqb k.serial serial && same_kind k.kind kind) k.value value (value_in keys kind serial) all.0 (value_is keys kind serial value all.1) e
 
 -- the link key is found under its serial
-pub link_found : (root : List ℕ) (last serial : ℕ) (value link : List ℕ) → value_in (linked_suite root last serial value link).live LinkKey (serial + 1) ≡ Some link
+pub link_found : (root : List ℕ) (last serial : ℕ) (value link : List ℕ)
+    → value_in (linked_suite root last serial value link).live LinkKey (serial + 1) ≡ Some link
 link_found root last serial value link =
     let apart : eqb serial (serial + 1) ≡ false = ne_eqb serial (serial + 1) (λ e. omega arith) in
     let self : eqb (serial + 1) (serial + 1) ≡ true = eq-eqb _ _ refl in
     rw (apart, self)
 
--- without its two keys nothing is left
-pub both_gone : (root : List ℕ) (last serial : ℕ) (value link : List ℕ) → 0 < serial → (without_key (without_key (linked_suite root last serial value link) (serial + 1)) serial).live ≡ []
+-- without its shared secret nothing is left
+pub one_gone : (root : List ℕ) (last serial : ℕ) (value : List ℕ) → 0 < serial
+    → (without_key (without_key (agreed_suite root last serial value) 0) serial).live ≡ []
+one_gone root last serial value some =
+    let self : eqb serial serial ≡ true = eq-eqb _ _ refl in
+    let some' : eqb serial 0 ≡ false = ne_eqb serial 0 (λ e. omega arith) in
+    rw (some', self)
+
+-- nor without the two keys
+pub both_gone : (root : List ℕ) (last serial : ℕ) (value link : List ℕ) → 0 < serial
+    → (without_key (without_key (linked_suite root last serial value link) (serial + 1)) serial).live ≡ []
 both_gone root last serial value link some =
     let apart : eqb serial (serial + 1) ≡ false = ne_eqb serial (serial + 1) (λ e. omega arith) in
     let next : eqb (serial + 1) (serial + 1) ≡ true = eq-eqb _ _ refl in
@@ -90,15 +109,25 @@ both_gone root last serial value link some =
 
 -- the Sender before the shared secret
 abbrev pub selecting : Meaning → Service → List ℕ → Model
-selecting means service seed = record { means = means; state = Select; service = service; role = Sender; seed = seed; number = 0; held = []; secret = 0; link = 0 }
+selecting means service seed = record (fresh means) { state = Select; service = service; role = Sender; seed = seed }
 
 -- with a shared secret
 abbrev pub sharing : Meaning → State → Service → Role → List ℕ → ℕ → Model
-sharing means state service role seed secret = record { means = means; state = state; service = service; role = role; seed = seed; number = 0; held = []; secret = secret; link = 0 }
+sharing means state service role seed secret = record (fresh means) { state = state; service = service; role = role; seed = seed; secret = secret }
 
 -- in a link session
 abbrev pub session : Meaning → Role → List ℕ → ℕ → List ℕ → ℕ → ℕ → Model
-session means role seed number held secret link = record { means = means; state = ConfirmedSch; service = Sch; role = role; seed = seed; number = number; held = held; secret = secret; link = link }
+session means role seed number held secret link = record {
+  means = means;
+  state = ConfirmedSch;
+  service = Sch;
+  role = role;
+  seed = seed;
+  number = number;
+  held = held;
+  secret = secret;
+  link = link;
+}
 
 -- once Idle is entered no key is left
 abbrev pub Clears : Model → Type 0

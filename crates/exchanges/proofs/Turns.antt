@@ -9,8 +9,9 @@ use Rattle.suite.specs.declared.types.Role.{Role}
 use Rattle.suite.specs.declared.types.Role.TheVariants.{Sender, Recipient}
 use Rattle.suite.specs.declared.types.KeyKind.TheVariants.{LinkKey}
 use Rattle.suite.specs.Numbers.{role_byte}
-use Rattle.suite.specs.Meanings.{Meaning, value_in}
+use Rattle.suite.specs.Meanings.{Meaning, Bytes16, value_in}
 use Rattle.suite.specs.Schemes.{Scheme, Lawful, ok_role}
+use Rattle.protocol.specs.declared.states.State.{State}
 use Rattle.protocol.specs.declared.states.State.TheVariants.{EstablishedSender, EstablishedRecipient, ConfirmedSse}
 use Rattle.protocol.specs.declared.outcomes.Confirmation.{Confirmation}
 use Rattle.protocol.specs.declared.outcomes.Confirmation.TheVariants as conf
@@ -18,7 +19,7 @@ use Rattle.protocol.specs.Outcomes.{quiet}
 use Rattle.protocol.specs.Models.{Model, fresh, no_seed}
 use Rattle.protocol.specs.Steps.{said_by, is_empty}
 use Rattle.protocol.specs.Calls.{Turn, invoke, send, retrieve_data, retrieve_secret, terminate, frame, turn, ended}
-use Rattle.exchanges.specs.Exchanges.{opposite}
+use Rattle.exchanges.specs.Exchanges.{opposite, Confirmed}
 use Rattle.exchanges.proofs.Shapes.{bare, agreed_suite, linked_suite, selecting, sharing, session}
 
 -- a call that meets no fault and destroys no key
@@ -33,39 +34,75 @@ same_bytes (y ∷ p) = let e = eq-eqb y y refl in let t = same_bytes p in rw (e,
 
 module _ (s : Scheme) (root : List ℕ) (last n room : ℕ) (wide : ltb room 255 ≡ false) where
   -- INVOKE
-  pub ask_is : (v : Service) (seed : List ℕ) → eqb (length seed) 16 ≡ true → turn s (fresh (bare root last n)) (invoke v s.pid seed room) ≡ stepped (selecting (bare root last n) v seed) conf.Nothing 0 (said_by v (act_req s.pid (s.offer_of root seed)))
+  pub ask_is : (v : Service) (seed : List ℕ) → eqb (length seed) 16 ≡ true
+      → turn s (fresh (bare root last n)) (invoke v s.pid seed room)
+      ≡ stepped (selecting (bare root last n) v seed) conf.Nothing 0 (said_by v (act_req s.pid (s.offer_of root seed)))
   ask_is v seed long = let pid = eq-eqb s.pid s.pid refl in rw (wide, long, pid)
 
   -- ACT_REQ
-  pub reply_is : (v : Service) (offer seed : List ℕ) → eqb (length seed) 16 ≡ true → ltb 255 (length (said_by v (act_req s.pid offer))) ≡ false → s.fit_of root offer ≡ true → eqb n last ≡ false → turn s (fresh (bare root last n)) (frame (said_by v (act_req s.pid offer)) seed room) ≡ stepped (sharing (agreed_suite root last (n + 1) (s.secret_of root (n + 1) 2 seed offer)) EstablishedRecipient v Recipient no_seed (n + 1)) conf.Nothing (n + 1) (said_by v (act_res (s.offer_of root seed)))
+  pub reply_is : (v : Service) (offer seed : List ℕ) → eqb (length seed) 16 ≡ true → ltb 255 (length (said_by v (act_req s.pid offer))) ≡ false
+      → s.fit_of root offer ≡ true → eqb n last ≡ false → let value = s.secret_of root (n + 1) 2 seed offer in
+      turn s (fresh (bare root last n)) (frame (said_by v (act_req s.pid offer)) seed room)
+      ≡ stepped (sharing (agreed_suite root last (n + 1) value) EstablishedRecipient v Recipient no_seed (n + 1)) conf.Nothing (n + 1) (said_by v (act_res (s.offer_of root seed)))
   reply_is Sse offer seed long short fit left = let pid = eq-eqb s.pid s.pid refl in rw (wide, long, short, pid, long, fit, left)
   reply_is Sch offer seed long short fit left = let pid = eq-eqb s.pid s.pid refl in rw (wide, long, short, pid, long, fit, left)
 
   -- ACT_RES
-  pub check_is : (v : Service) (offer seed spare : List ℕ) → eqb (length spare) 16 ≡ true → eqb (length seed) 16 ≡ true → ltb 255 (length (said_by v (act_res offer))) ≡ false → s.fit_of root offer ≡ true → eqb n last ≡ false →
-      let value = s.secret_of root (n + 1) 1 seed offer in
-      turn s (selecting (bare root last n) v seed) (frame (said_by v (act_res offer)) spare room) ≡ stepped (sharing (agreed_suite root last (n + 1) value) EstablishedSender v Sender seed (n + 1)) conf.Nothing (n + 1) (said_by v (vfy_req (s.check_of root (n + 1) value 1)))
+  pub check_is : (v : Service) (offer seed spare : List ℕ) → eqb (length spare) 16 ≡ true → eqb (length seed) 16 ≡ true
+      → ltb 255 (length (said_by v (act_res offer))) ≡ false → s.fit_of root offer ≡ true → eqb n last ≡ false
+      → let value = s.secret_of root (n + 1) 1 seed offer in
+      turn s (selecting (bare root last n) v seed) (frame (said_by v (act_res offer)) spare room)
+      ≡ stepped (sharing (agreed_suite root last (n + 1) value) EstablishedSender v Sender seed (n + 1)) conf.Nothing (n + 1) (said_by v (vfy_req (s.check_of root (n + 1) value 1)))
   check_is Sse offer seed spare long kept short fit left = let own = eq-eqb (n + 1) (n + 1) refl in rw (wide, long, short, kept, fit, left, own)
   check_is Sch offer seed spare long kept short fit left = let own = eq-eqb (n + 1) (n + 1) refl in rw (wide, long, short, kept, fit, left, own)
 
--- with a shared secret
-module _ (s : Scheme) (root : List ℕ) (last n room : ℕ) (wide : ltb room 255 ≡ false) (value spare : List ℕ) (long : eqb (length spare) 16 ≡ true) (check own : List ℕ) (fits : s.check_of root n value 1 ≡ check) (fits' : s.check_of root n value 2 ≡ own) where
-  -- VFY_REQ
-  pub confirm-sse : ltb 255 (length (said_by Sse (vfy_req check))) ≡ false → turn s (sharing (agreed_suite root last n value) EstablishedRecipient Sse Recipient no_seed n) (frame (said_by Sse (vfy_req check)) spare room) ≡ stepped (sharing (agreed_suite root last n value) ConfirmedSse Sse Recipient no_seed n) conf.Established 0 (said_by Sse (vfy_res own))
-  confirm-sse short = let self = eq-eqb n n refl in let same = same_bytes check in rw (wide, long, short, self, fits, same, fits')
+-- with a shared secret, and the check values of the Sender and of the Recipient
+module _ (s : Scheme) (root : List ℕ) (last n room : ℕ) (wide : ltb room 255 ≡ false) (value spare : List ℕ) (long : eqb (length spare) 16 ≡ true)
+    (asked replied : List ℕ) (senders : s.check_of root n value 1 ≡ asked) (recipients : s.check_of root n value 2 ≡ replied) where
+  -- before and after the confirmation
+  abbrev before : State → Service → Role → List ℕ → Model
+  before state v role seed = sharing (agreed_suite root last n value) state v role seed n
 
-  pub confirm-sch : ltb 255 (length (said_by Sch (vfy_req check))) ≡ false → eqb n last ≡ false → turn s (sharing (agreed_suite root last n value) EstablishedRecipient Sch Recipient no_seed n) (frame (said_by Sch (vfy_req check)) spare room) ≡ stepped (session (linked_suite root last n value (s.link_of root n value (n + 1))) Recipient no_seed s.first [] n (n + 1)) conf.Established (n + 1) (said_by Sch (vfy_res own))
-  confirm-sch short left = let self = eq-eqb n n refl in let same = same_bytes check in rw (wide, long, short, self, fits, same, fits', left)
+  abbrev linked : Role → List ℕ → Model
+  linked role seed = session (linked_suite root last n value (s.link_of root n value (n + 1))) role seed s.first [] n (n + 1)
+
+  -- VFY_REQ
+  pub confirm_sse : ltb 255 (length (said_by Sse (vfy_req asked))) ≡ false
+      → turn s (before EstablishedRecipient Sse Recipient no_seed) (frame (said_by Sse (vfy_req asked)) spare room)
+      ≡ stepped (before ConfirmedSse Sse Recipient no_seed) conf.Established 0 (said_by Sse (vfy_res replied))
+  confirm_sse short =
+      let self = eq-eqb n n refl in
+      let same = same_bytes asked in
+      rw (wide, long, short, self, senders, same, recipients)
+
+  pub confirm_sch : ltb 255 (length (said_by Sch (vfy_req asked))) ≡ false → eqb n last ≡ false
+      → turn s (before EstablishedRecipient Sch Recipient no_seed) (frame (said_by Sch (vfy_req asked)) spare room)
+      ≡ stepped (linked Recipient no_seed) conf.Established (n + 1) (said_by Sch (vfy_res replied))
+  confirm_sch short left =
+      let self = eq-eqb n n refl in
+      let same = same_bytes asked in
+      rw (wide, long, short, self, senders, same, recipients, left)
 
   -- VFY_RES
-  pub complete-sse : (seed : List ℕ) → ltb 255 (length (said_by Sse (vfy_res own))) ≡ false → turn s (sharing (agreed_suite root last n value) EstablishedSender Sse Sender seed n) (frame (said_by Sse (vfy_res own)) spare room) ≡ stepped (sharing (agreed_suite root last n value) ConfirmedSse Sse Sender seed n) conf.Established 0 []
-  complete-sse seed short = let self = eq-eqb n n refl in let same = same_bytes own in rw (wide, long, short, self, fits', same)
+  pub complete_sse : (seed : List ℕ) → ltb 255 (length (said_by Sse (vfy_res replied))) ≡ false
+      → turn s (before EstablishedSender Sse Sender seed) (frame (said_by Sse (vfy_res replied)) spare room)
+      ≡ stepped (before ConfirmedSse Sse Sender seed) conf.Established 0 []
+  complete_sse seed short =
+      let self = eq-eqb n n refl in
+      let same = same_bytes replied in
+      rw (wide, long, short, self, recipients, same)
 
-  pub complete-sch : (seed : List ℕ) → ltb 255 (length (said_by Sch (vfy_res own))) ≡ false → eqb n last ≡ false → turn s (sharing (agreed_suite root last n value) EstablishedSender Sch Sender seed n) (frame (said_by Sch (vfy_res own)) spare room) ≡ stepped (session (linked_suite root last n value (s.link_of root n value (n + 1))) Sender seed s.first [] n (n + 1)) conf.Established (n + 1) []
-  complete-sch seed short left = let self = eq-eqb n n refl in let same = same_bytes own in rw (wide, long, short, self, fits', same, left)
+  pub complete_sch : (seed : List ℕ) → ltb 255 (length (said_by Sch (vfy_res replied))) ≡ false → eqb n last ≡ false
+      → turn s (before EstablishedSender Sch Sender seed) (frame (said_by Sch (vfy_res replied)) spare room)
+      ≡ stepped (linked Sender seed) conf.Established (n + 1) []
+  complete_sch seed short left =
+      let self = eq-eqb n n refl in
+      let same = same_bytes replied in
+      rw (wide, long, short, self, recipients, same, left)
 
 -- RETRIEVE_SECRET
-pub tell_is : (s : Scheme) (root : List ℕ) (last n : ℕ) (role : Role) (seed value : List ℕ) (room : ℕ) → ltb room 16 ≡ false → let m = sharing (agreed_suite root last n value) ConfirmedSse Sse role seed n in turn s m (retrieve_secret room) ≡ stepped m conf.Nothing 0 value
+pub tell_is : (s : Scheme) (root : List ℕ) (last n : ℕ) (role : Role) (seed value : List ℕ) (room : ℕ) → ltb room 16 ≡ false
+    → let m = sharing (agreed_suite root last n value) ConfirmedSse Sse role seed n in turn s m (retrieve_secret room) ≡ stepped m conf.Nothing 0 value
 tell_is s root last n role seed value room wide = let self = eq-eqb n n refl in rw (wide, self)
 
 -- Records.
@@ -81,9 +118,13 @@ opposite_differs Recipient = refl
 full : (plain : List ℕ) → 0 < length plain → is_empty plain ≡ false
 full plain h = ne_eqb (length plain) 0 (λ e. omega arith)
 
-module _ (s : Scheme) (law : Lawful s) (means : Meaning) (role : Role) (seed : List ℕ) (number secret link room : ℕ) (w plain : List ℕ) (enough : 255 ≤ room) (some : 0 < length plain) (most : length plain ≤ 200) where
+module _ (s : Scheme) (law : Lawful s) (means : Meaning) (role : Role) (seed : List ℕ) (number secret link room : ℕ) (value plain : List ℕ)
+    (enough : 255 ≤ room) (some : 0 < length plain) (most : length plain ≤ 200) where
   -- SEND
-  pub send_is : (held : List ℕ) → value_in means.live LinkKey link ≡ Some w → number < s.final → turn s (session means role seed number held secret link) (send plain room) ≡ stepped (session means role seed (number + 1) held secret link) conf.DataSent 0 (said_by Sch (enc (s.seal_of means.root link w (role_byte role) (number + 1) plain)))
+  pub send_is : (held : List ℕ) → value_in means.live LinkKey link ≡ Some value → number < s.final
+      → let payload = s.seal_of means.root link value (role_byte role) (number + 1) plain in
+      turn s (session means role seed number held secret link) (send plain room)
+      ≡ stepped (session means role seed (number + 1) held secret link) conf.DataSent 0 (said_by Sch (enc payload))
   send_is held key below =
       let top = law.final_bound in
       let wide : ltb room 255 ≡ false = le-ltb room 255 enough in
@@ -95,7 +136,10 @@ module _ (s : Scheme) (law : Lawful s) (means : Meaning) (role : Role) (seed : L
       rw (wide, filled, short, next, ok, low, key)
 
   -- ENC, in the opposite role
-  pub hear_is : (payload spare : List ℕ) → length spare ≡ 16 → length payload ≤ 254 → value_in means.live LinkKey link ≡ Some w → number < s.final → s.open_of means.root link w payload ≡ Some (role_byte role, number + 1, plain) → turn s (session means (opposite role) seed number [] secret link) (frame (said_by Sch (enc payload)) spare room) ≡ stepped (session means (opposite role) seed (number + 1) plain secret link) conf.DataAvailable 0 []
+  pub hear_is : (payload spare : List ℕ) → length spare ≡ 16 → length payload ≤ 254 → value_in means.live LinkKey link ≡ Some value
+      → number < s.final → s.open_of means.root link value payload ≡ Some (role_byte role, number + 1, plain)
+      → turn s (session means (opposite role) seed number [] secret link) (frame (said_by Sch (enc payload)) spare room)
+      ≡ stepped (session means (opposite role) seed (number + 1) plain secret link) conf.DataAvailable 0 []
   hear_is payload spare long light key below opens =
       let wide : ltb room 255 ≡ false = le-ltb room 255 enough in
       let sixteen : eqb (length spare) 16 ≡ true = eq-eqb (length spare) 16 long in
@@ -110,7 +154,9 @@ module _ (s : Scheme) (law : Lawful s) (means : Meaning) (role : Role) (seed : L
       rw (wide, sixteen, short, payload_short, key, opens, filled, plain_short, other, differs, self, low)
 
   -- RETRIEVE_DATA
-  pub data_is : (own : Role) → turn s (session means own seed number plain secret link) (retrieve_data room) ≡ stepped (session means own seed number [] secret link) conf.Nothing 0 plain
+  pub data_is : (own : Role)
+      → turn s (session means own seed number plain secret link) (retrieve_data room)
+      ≡ stepped (session means own seed number [] secret link) conf.Nothing 0 plain
   data_is own =
       let filled : eqb (length plain) 0 ≡ false = full plain some in
       let fits : ltb room (length plain) ≡ false = le-ltb room (length plain) (omega arith) in
@@ -118,14 +164,25 @@ module _ (s : Scheme) (law : Lawful s) (means : Meaning) (role : Role) (seed : L
 
 -- The end.
 
-module _ (s : Scheme) (means : Meaning) (role : Role) (seed : List ℕ) (number secret link room : ℕ) (enough : 255 ≤ room) where
+module _ (s : Scheme) (m : Model) (room : ℕ) (enough : 255 ≤ room) where
+  wide : ltb room 255 ≡ false
+  wide = le-ltb room 255 enough
+
   -- TERMINATE
-  pub part_is : let m = session means role seed number [] secret link in turn s m (terminate room) ≡ ended m conf.Terminated (said_by Sch (tmn [])) None
-  part_is = let wide : ltb room 255 ≡ false = le-ltb room 255 enough in rw wide
+  pub part_is : (v : Service) → Confirmed v m → turn s m (terminate room) ≡ ended m conf.Terminated (said_by v (tmn [])) None
+  part_is Sse c = let state = c.state in let service = c.service in rw (wide, state, service)
+  part_is Sch c = let state = c.state in let service = c.service in rw (wide, state, service)
 
   -- TMN
-  pub parted_is : (spare : List ℕ) → length spare ≡ 16 → let m = session means role seed number [] secret link in turn s m (frame (said_by Sch (tmn [])) spare room) ≡ ended m conf.Terminated [] None
-  parted_is spare long =
-      let wide : ltb room 255 ≡ false = le-ltb room 255 enough in
-      let sixteen : eqb (length spare) 16 ≡ true = eq-eqb (length spare) 16 long in
-      rw (wide, sixteen)
+  pub parted_is : (v : Service) (spare : List ℕ) → Confirmed v m → Bytes16 spare
+      → turn s m (frame (said_by v (tmn [])) spare room) ≡ ended m conf.Terminated [] None
+  parted_is Sse spare c h =
+      let long = eq-eqb (length spare) 16 h.long in
+      let state = c.state in
+      let service = c.service in
+      rw (wide, long, state, service)
+  parted_is Sch spare c h =
+      let long = eq-eqb (length spare) 16 h.long in
+      let state = c.state in
+      let service = c.service in
+      rw (wide, long, state, service)

@@ -9,11 +9,12 @@ use Rattle.suite.specs.declared.types.KeyKind.TheVariants.{LinkKey}
 use Rattle.suite.specs.Meanings.{Meaning, Bytes, Bytes16, WellFormed, value_in}
 use Rattle.suite.specs.Schemes.{Scheme, Lawful}
 use Rattle.suite_of.specs.Kinds.{Functions, scheme_of}
+use Rattle.protocol.specs.declared.states.State.{State}
 use Rattle.protocol.specs.declared.states.State.TheVariants.{Idle, ConfirmedSse, ConfirmedSch}
 use Rattle.protocol.specs.Models.{Model, fresh}
 use Rattle.protocol.specs.Calls.{Call, send, retrieve_secret, turn}
 use Rattle.histories.specs.Histories.{Fresh, GivenBytes, after, history, confirms, answers, sent, handed}
-use Rattle.exchanges.specs.Duos.{End, Duo, called, last_answer, last_written, Meeting, hears, activated, Line, here, there, passed, talked, said_here, said_there, parted}
+use Rattle.exchanges.specs.Duos.{End, Duo, called, last_answer, last_written, Meeting, hears, activated, Line, here, there, turned, passed, talked, said_here, said_there, parted}
 
 -- What is asked of a kind of suite beyond its laws: check values and link keys depend on no serial. Two peers may have given their keys
 -- different serials, and are to come to the same.
@@ -54,11 +55,19 @@ abbrev pub opposite : Role → Role
 opposite Sender = Recipient
 opposite Recipient = Sender
 
+abbrev pub confirmed_state : Service → State
+confirmed_state Sse = ConfirmedSse
+confirmed_state Sch = ConfirmedSch
+
+-- in the Confirmed state of a service
+pub record Confirmed (v : Service) (m : Model) : Type 0 where
+  pub state : m.state ≡ confirmed_state v
+  pub service : m.service ≡ v
+
 -- in a link session whose key has this value, with nothing held
 pub record InLink (value : List ℕ) (m : Model) : Type 0 where
   pub formed : WellFormed m.means
-  pub state : m.state ≡ ConfirmedSch
-  pub service : m.service ≡ Sch
+  pub confirmed : Confirmed Sch m
   pub none_held : m.held ≡ []
   pub key : value_in m.means.live LinkKey m.link ≡ Some value
 
@@ -86,8 +95,8 @@ LinkSucceeds = (s : Scheme) → Lawful s → SerialFree s → (x : Meeting) → 
 pub record Shared (s : Scheme) (d : Duo) (room : ℕ) : Type 0 where
   pub mine : confirms 1 (last_answer d.one.past) ≡ true
   pub theirs : confirms 1 (last_answer d.other.past) ≡ true
-  pub mine_in : d.one.model.state ≡ ConfirmedSse
-  pub theirs_in : d.other.model.state ≡ ConfirmedSse
+  pub mine_in : Confirmed Sse d.one.model
+  pub theirs_in : Confirmed Sse d.other.model
   pub mine_told : answers (turn s d.one.model (retrieve_secret room)).answer ≡ true
   pub theirs_told : answers (turn s d.other.model (retrieve_secret room)).answer ≡ true
   pub long : length (turn s d.one.model (retrieve_secret room)).reply ≡ 16
@@ -163,30 +172,43 @@ pub record Parted (d : Duo) : Type 0 where
   pub mine_idle : d.one.model.state ≡ Idle
   pub theirs_idle : d.other.model.state ≡ Idle
 
+-- two entities confirmed in one service part
 abbrev pub PartingSucceeds : Type 0
-PartingSucceeds = (s : Scheme) (x : Meeting) → Bytes16 x.spare → 255 ≤ x.room → (number : ℕ) (d : Duo) → Matched number d → Parted (parted s x d)
+PartingSucceeds = (s : Scheme) (x : Meeting) → Bytes16 x.spare → 255 ≤ x.room →
+    (service : Service) (d : Duo) → Confirmed service d.one.model → Confirmed service d.other.model → Parted (parted s x d)
 
 abbrev pub NoneLeft : Duo → Type 0
 NoneLeft d = (d.one.model.means.live ≡ []) × (d.other.model.means.live ≡ [])
 
--- after any talk the two part, and no key is left
-abbrev pub EndSucceeds : Type 0
-EndSucceeds = (s : Scheme) → Lawful s → SerialFree s → (x : Meeting) → Ready Sch x →
-    (talk : List Line) → AllFit talk → s.first + length talk ≤ s.final →
-    let d = parted s x (talked s x (activated s Sch x) talk) in Parted d × NoneLeft d
+-- whichever of the two terminates, they part, and no key is left
+pub record EndsWell (s : Scheme) (x : Meeting) (d : Duo) : Type 0 where
+  pub mine : Parted (parted s x d)
+  pub mine_gone : NoneLeft (parted s x d)
+  pub theirs : Parted (parted s x (turned d))
+  pub theirs_gone : NoneLeft (parted s x (turned d))
+
+-- a link after any talk
+abbrev pub LinkEnds : Type 0
+LinkEnds = (s : Scheme) → Lawful s → SerialFree s → (x : Meeting) → Ready Sch x →
+    (talk : List Line) → AllFit talk → s.first + length talk ≤ s.final → EndsWell s x (talked s x (activated s Sch x) talk)
+
+abbrev pub SecretEnds : Type 0
+SecretEnds = (s : Scheme) → Lawful s → SerialFree s → (x : Meeting) → Ready Sse x → EndsWell s x (activated s Sse x)
 
 -- there are entities ready for a link
 abbrev pub SomeReady : Type 0
 SomeReady = (x : Meeting) × Ready Sch x
 
+-- all of it together
 pub record Undisturbed : Type 0 where
   pub serials_free : KindsSerialFree
   pub news_fresh : NewIsFresh
   pub some_ready : SomeReady
   pub links : LinkSucceeds
   pub secrets : SecretSucceeds
-  pub record_arrives : RecordPasses
-  pub records_arrive : RecordsPass
+  pub record_passes : RecordPasses
+  pub records_pass : RecordsPass
   pub talks : TalkSucceeds
   pub partings : PartingSucceeds
-  pub ends : EndSucceeds
+  pub link_ends : LinkEnds
+  pub secret_ends : SecretEnds

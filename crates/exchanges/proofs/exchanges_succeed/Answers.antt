@@ -1,6 +1,6 @@
 use Rattle.exchanges.proofs.Activations.{kinds_serial_free, new_fresh, some_ready, link_succeeds, secret_succeeds}
 use Rattle.exchanges.proofs.Records.{record_passes, records_pass}
-use Rattle.exchanges.proofs.Ends.{talk_succeeds, parting_succeeds, end_succeeds}
+use Rattle.exchanges.proofs.Ends.{talk_succeeds, parting_succeeds, link_ends, secret_ends}
 use Rattle.exchanges.proofs.exchanges_succeed.Goals as goal
 
 pub returns : goal.returns
@@ -10,9 +10,10 @@ returns c = record {
   some_ready = some_ready;
   links = link_succeeds;
   secrets = secret_succeeds;
-  record_arrives = record_passes;
-  records_arrive = records_pass;
+  record_passes = record_passes;
+  records_pass = records_pass;
   talks = talk_succeeds;
   partings = parting_succeeds;
-  ends = end_succeeds;
+  link_ends = link_ends;
+  secret_ends = secret_ends;
 }
