@@ -1,5 +1,5 @@
 -- Two new entities whose frames are passed on unaltered confirm each other.
-use Rattle.std.proofs.Common.{◌≡◌, ℕ, ◌+◌, ◌<◌, ◌≤◌, true, false, eqb, ltb, List, [], ◌∷◌, ◌++◌, length, Some, sym, refl, ap, ◌∙◌, subst, arith, lit<, lit≤}
+use Rattle.std.proofs.Common.{◌≡◌, ℕ, ◌+◌, ◌<◌, ◌≤◌, true, false, eqb, ltb, List, [], ◌∷◌, length, sym, refl, ap, ◌∙◌, subst, arith, lit<, lit≤}
 use Rattle.std.specs.List.{AllByRecursion}
 use Rattle.std.proofs.lemmas.Bool.{le-ltb, eq-eqb, ne_eqb}
 use Rattle.frame.specs.declared.types.Service.{Service}
@@ -8,7 +8,7 @@ use Rattle.frame.specs.Frames.{Said, fields, act_req, act_res, vfy_req, vfy_res}
 use Rattle.suite.specs.declared.types.Role.TheVariants.{Sender, Recipient}
 use Rattle.suite.specs.Meanings.{Meaning, Bytes16, WellFormed}
 use Rattle.suite.specs.Schemes.{Scheme, Lawful, ok_role}
-use Rattle.suite_of.specs.Kinds.{Functions, scheme_of}
+use Rattle.protocol.specs.declared.states.State.{State}
 use Rattle.protocol.specs.declared.states.State.TheVariants.{EstablishedSender, EstablishedRecipient, ConfirmedSse}
 use Rattle.protocol.specs.declared.outcomes.Confirmation.TheVariants as conf
 use Rattle.protocol.specs.Models.{Model, fresh, no_seed}
@@ -16,8 +16,8 @@ use Rattle.protocol.specs.Steps.{said_by}
 use Rattle.protocol.specs.Calls.{Call, invoke, frame, Turn, turn}
 use Rattle.histories.specs.Histories.{Entry, History, GivenBytes, entered, answers}
 use Rattle.exchanges.specs.Duos.{End, Duo, begun, last_written, Meeting, asks, replies, checks, verifies, completes, activated}
-use Rattle.exchanges.specs.Exchanges.{SerialFree, KindsSerialFree, NewIsFresh, Ready, Linked, LinkSucceeds, Shared, SecretSucceeds, IsRun, SomeReady}
-use Rattle.exchanges.proofs.Shapes.{bare, agreed_suite, linked_suite, Base, base_of, linked_formed, link_found, one_gone, both_gone, selecting, sharing, session, Clears}
+use Rattle.exchanges.specs.Exchanges.{SerialFree, KindsSerialFree, NewIsFresh, Ready, opposite, InLink, Matched, Linked, LinkSucceeds, Shared, SecretSucceeds, IsRun, SomeReady}
+use Rattle.exchanges.proofs.Shapes.{bare, agreed_suite, linked_suite, Base, base_of, linked_in, one_gone, both_gone, selecting, sharing, session, Clears}
 use Rattle.exchanges.proofs.Turns.{stepped, ask_is, reply_is, check_is, confirm_sse, confirm_sch, complete_sse, complete_sch, tell_is}
 use Rattle.exchanges.proofs.Records.{run_called}
 
@@ -84,7 +84,9 @@ module _ (s : Scheme) (law : Lawful s) (free : SerialFree s) (root : List ℕ) (
   replied = s.check_of root (n' + 1) value 2
 
   value16 : Bytes16 value
-  value16 = law.secret_is root seed (s.offer_of root answering) (n + 1) 1 base.root_is seed_is (law.offer_bytes root answering base.root_is answering_is) refl (law.fits root answering base.root_is answering_is)
+  value16 =
+      law.secret_is root seed (s.offer_of root answering) (n + 1) 1 base.root_is seed_is (law.offer_bytes root answering base.root_is answering_is)
+      refl (law.fits root answering base.root_is answering_is)
 
   agreed : s.secret_of root (n' + 1) 2 answering (s.offer_of root seed) ≡ value
   agreed = sym (law.agrees root seed answering (n + 1) (n' + 1) base.root_is seed_is answering_is)
@@ -108,77 +110,138 @@ module _ (s : Scheme) (law : Lawful s) (free : SerialFree s) (root : List ℕ) (
   offer_most {own} h = let long = law.offer_long root own base.root_is h in let bound = law.offer_bound in omega arith
 
   check_most : (serial role : ℕ) → ok_role role ≡ true → length (s.check_of root serial value role) ≤ 65
-  check_most serial role ok = let long = law.check_long root value serial role base.root_is value16 ok in let bound = law.check_bound in omega arith
+  check_most serial role ok =
+      let long = law.check_long root value serial role base.root_is value16 ok in
+      let bound = law.check_bound in
+      omega arith
 
   left : (k l : ℕ) → k < l → eqb k l ≡ false
   left k l h = ne_eqb k l (λ e. omega arith)
 
+  -- the two with the shared secret, and in the link
+  abbrev mine_sharing : State → Service → Model
+  mine_sharing state v = sharing (agreed_suite root last (n + 1) value) state v Sender seed (n + 1)
+
+  abbrev their_sharing : State → Service → Model
+  their_sharing state v = sharing (agreed_suite root last' (n' + 1) value) state v Recipient no_seed (n' + 1)
+
+  abbrev mine_link : List ℕ
+  mine_link = s.link_of root (n + 1) value ((n + 1) + 1)
+
+  abbrev their_link : List ℕ
+  their_link = s.link_of root (n' + 1) value ((n' + 1) + 1)
+
+  abbrev mine_linked : Model
+  mine_linked = session (linked_suite root last (n + 1) value mine_link) Sender seed s.first [] (n + 1) ((n + 1) + 1)
+
+  abbrev their_linked : Model
+  their_linked = session (linked_suite root last' (n' + 1) value their_link) Recipient no_seed s.first [] (n' + 1) ((n' + 1) + 1)
+
+  -- the first three calls
+
+  abbrev said_act_req : Service → List ℕ
+  said_act_req v = said_by v (act_req s.pid (s.offer_of root seed))
+
+  abbrev said_act_res : Service → List ℕ
+  said_act_res v = said_by v (act_res (s.offer_of root answering))
+
   abbrev turn1 : Service → Turn
-  turn1 v = stepped (selecting (bare root last n) v seed) conf.Nothing 0 (said_by v (act_req s.pid (s.offer_of root seed)))
+  turn1 v = stepped (selecting (bare root last n) v seed) conf.Nothing 0 (said_act_req v)
 
   abbrev turn2 : Service → Turn
-  turn2 v = stepped (sharing (agreed_suite root last' (n' + 1) value) EstablishedRecipient v Recipient no_seed (n' + 1)) conf.Nothing (n' + 1) (said_by v (act_res (s.offer_of root answering)))
+  turn2 v = stepped (their_sharing EstablishedRecipient v) conf.Nothing (n' + 1) (said_act_res v)
 
   abbrev turn3 : Service → Turn
-  turn3 v = stepped (sharing (agreed_suite root last (n + 1) value) EstablishedSender v Sender seed (n + 1)) conf.Nothing (n + 1) (said_by v (vfy_req asked))
+  turn3 v = stepped (mine_sharing EstablishedSender v) conf.Nothing (n + 1) (said_by v (vfy_req asked))
 
   first : (v : Service) → turn s (fresh (bare root last n)) (invoke v s.pid seed room) ≡ turn1 v
   first v = ask_is s root last n room wide v seed (sixteen seed_is)
 
-  second : (v : Service) → n' < last' → turn s (fresh (bare root last' n')) (frame (said_by v (act_req s.pid (s.offer_of root seed))) answering room) ≡ turn2 v
+  second : (v : Service) → n' < last' → turn s (fresh (bare root last' n')) (frame (said_act_req v) answering room) ≡ turn2 v
   second v h =
-      reply_is s root last' n' room wide v (s.offer_of root seed) answering (sixteen answering_is) (fits v (act_req s.pid (s.offer_of root seed)) (let most = offer_most seed_is in omega arith)) (law.fits root seed base.root_is seed_is) (left n' last' h)
-      ∙ ap (λ z. stepped (sharing (agreed_suite root last' (n' + 1) z) EstablishedRecipient v Recipient no_seed (n' + 1)) conf.Nothing (n' + 1) (said_by v (act_res (s.offer_of root answering)))) agreed
+      let most = offer_most seed_is in
+      let short = fits v (act_req s.pid (s.offer_of root seed)) (omega arith) in
+      let fit = law.fits root seed base.root_is seed_is in
+      let made : List ℕ → Model = λ z. sharing (agreed_suite root last' (n' + 1) z) EstablishedRecipient v Recipient no_seed (n' + 1) in
+      reply_is s root last' n' room wide v (s.offer_of root seed) answering (sixteen answering_is) short fit (left n' last' h)
+      ∙ ap (λ z. stepped (made z) conf.Nothing (n' + 1) (said_act_res v)) agreed
 
-  third : (v : Service) → n < last → turn s (selecting (bare root last n) v seed) (frame (said_by v (act_res (s.offer_of root answering))) spare room) ≡ turn3 v
-  third v h = check_is s root last n room wide v (s.offer_of root answering) seed spare (sixteen spare_is) (sixteen seed_is) (fits v (act_res (s.offer_of root answering)) (let most = offer_most answering_is in omega arith)) (law.fits root answering base.root_is answering_is) (left n last h)
+  third : (v : Service) → n < last → turn s (selecting (bare root last n) v seed) (frame (said_act_res v) spare room) ≡ turn3 v
+  third v h =
+      let most = offer_most answering_is in
+      let short = fits v (act_res (s.offer_of root answering)) (omega arith) in
+      let fit = law.fits root answering base.root_is answering_is in
+      check_is s root last n room wide v (s.offer_of root answering) seed spare (sixteen spare_is) (sixteen seed_is) short fit (left n last h)
 
-  link_up : n + 2 ≤ last → n' + 2 ≤ last' → Started s (activated s Sch meeting)
-  link_up h h' =
-      let w : List ℕ = s.link_of root (n + 1) value ((n + 1) + 1) in
-      let w' : List ℕ = s.link_of root (n' + 1) value ((n' + 1) + 1) in
-      let same : w' ≡ w = free.links root value (n' + 1) (n + 1) ((n' + 1) + 1) ((n + 1) + 1) in
-      let t4 : Turn = stepped (session (linked_suite root last' (n' + 1) value w') Recipient no_seed s.first [] (n' + 1) ((n' + 1) + 1)) conf.Established ((n' + 1) + 1) (said_by Sch (vfy_res replied)) in
-      let t5 : Turn = stepped (session (linked_suite root last (n + 1) value w) Sender seed s.first [] (n + 1) ((n + 1) + 1)) conf.Established ((n + 1) + 1) [] in
+  asked_fits : (v : Service) → ltb 255 (length (said_by v (vfy_req asked))) ≡ false
+  asked_fits v = fits v (vfy_req asked) (check_most (n + 1) 1 refl)
+
+  replied_fits : (v : Service) → ltb 255 (length (said_by v (vfy_res replied))) ≡ false
+  replied_fits v = fits v (vfy_res replied) (check_most (n' + 1) 2 refl)
+
+  -- the last two for SCH
+
+  linked : n + 2 ≤ last → n' + 2 ≤ last' → (d : Duo) → d.one.model ≡ mine_linked → d.other.model ≡ their_linked → Matched s.first d
+  linked h h' d e e' =
       let some : 0 < n + 1 = omega arith in
       let some' : 0 < n' + 1 = omega arith in
       let full : Base root last ((n + 1) + 1) = record { root_is = base.root_is; below = omega arith; word = base.word } in
       let full' : Base root last' ((n' + 1) + 1) = record { root_is = base.root_is; below = omega arith; word = base'.word } in
-      let link16 = law.link_is root value (n + 1) ((n + 1) + 1) base.root_is value16 in
-      let link16' = law.link_is root value (n' + 1) ((n' + 1) + 1) base.root_is value16 in
-      five s Sch meeting (Started s) (turn1 Sch) (turn2 Sch) (turn3 Sch) t4 t5 (first Sch) (second Sch (omega arith)) (third Sch (omega arith))
-      (confirm_sch s root last' (n' + 1) room wide value spare (sixteen spare_is) asked replied asked_alike refl (fits Sch (vfy_req asked) (check_most (n + 1) 1 refl)) (left (n' + 1) last' (omega arith)))
-      (complete_sch s root last (n + 1) room wide value spare (sixteen spare_is) asked replied refl replied_alike seed (fits Sch (vfy_res replied) (check_most (n' + 1) 2 refl)) (left (n + 1) last (omega arith)))
+      let mine16 = law.link_is root value (n + 1) ((n + 1) + 1) base.root_is value16 in
+      let their16 = law.link_is root value (n' + 1) ((n' + 1) + 1) base.root_is value16 in
+      let alike : their_link ≡ mine_link = free.links root value (n' + 1) (n + 1) ((n' + 1) + 1) ((n + 1) + 1) in
+      let theirs = linked_in root last' (n' + 1) value their_link Recipient no_seed s.first full' some' value16 their16 in
+      record {
+        value = mine_link;
+        mine = subst (InLink mine_link) (sym e) (linked_in root last (n + 1) value mine_link Sender seed s.first full some value16 mine16);
+        theirs = subst (InLink mine_link) (sym e') (subst (λ z. InLink z their_linked) alike theirs);
+        roles = ap (λ z. z.role) e' ∙ sym (ap (λ z. opposite z.role) e);
+        mine_at = ap (λ z. z.number) e;
+        theirs_at = ap (λ z. z.number) e';
+      }
+
+  link_up : n + 2 ≤ last → n' + 2 ≤ last' → Started s (activated s Sch meeting)
+  link_up h h' =
+      let turn4 : Turn = stepped their_linked conf.Established ((n' + 1) + 1) (said_by Sch (vfy_res replied)) in
+      let turn5 : Turn = stepped mine_linked conf.Established ((n + 1) + 1) [] in
+      let fourth : turn s (their_sharing EstablishedRecipient Sch) (frame (said_by Sch (vfy_req asked)) spare room) ≡ turn4 =
+      confirm_sch s root last' (n' + 1) room wide value spare (sixteen spare_is) asked replied asked_alike refl (asked_fits Sch) (left (n' + 1) last' (omega arith)) in
+      let fifth : turn s (mine_sharing EstablishedSender Sch) (frame (said_by Sch (vfy_res replied)) spare room) ≡ turn5 =
+      complete_sch s root last (n + 1) room wide value spare (sixteen spare_is) asked replied refl replied_alike seed (replied_fits Sch) (left (n + 1) last (omega arith)) in
+      let mine_offer = law.offer_bytes root seed base.root_is seed_is in
+      let their_offer = law.offer_bytes root answering base.root_is answering_is in
+      let asked_bytes = law.check_bytes root value (n + 1) 1 base.root_is value16 refl in
+      let replied_bytes = law.check_bytes root value (n' + 1) 2 base.root_is value16 refl in
+      five s Sch meeting (Started s) (turn1 Sch) (turn2 Sch) (turn3 Sch) turn4 turn5
+      (first Sch) (second Sch (omega arith)) (third Sch (omega arith)) fourth fifth
       (record {
         linked = record {
           mine = refl;
           theirs = refl;
-          matched = record {
-            value = w;
-            mine = record { formed = linked_formed root last (n + 1) value w full some value16 link16; confirmed = record { state = refl; service = refl }; none_held = refl; key = link_found root last (n + 1) value w };
-            theirs = record { formed = linked_formed root last' (n' + 1) value w' full' some' value16 link16'; confirmed = record { state = refl; service = refl }; none_held = refl; key = link_found root last' (n' + 1) value w' ∙ ap (λ z. Some z) same };
-            roles = refl;
-            mine_at = refl;
-            theirs_at = refl;
-          };
+          matched = linked h h' _ refl refl;
           none_sent = (refl, refl);
           none_handed = (refl, refl);
         };
-        mine_given = (((lit< tt, law.check_bytes root value (n' + 1) 2 base.root_is value16 refl), spare_is.bytes), (((lit< tt, law.offer_bytes root answering base.root_is answering_is), spare_is.bytes), (seed_is.bytes, tt)));
-        their_given = (((lit< tt, law.check_bytes root value (n + 1) 1 base.root_is value16 refl), spare_is.bytes), (((lit< tt, (law.pid_byte, law.offer_bytes root seed base.root_is seed_is)), answering_is.bytes), tt));
-        mine_clear = both_gone root last (n + 1) value w some;
-        their_clear = both_gone root last' (n' + 1) value w' some';
+        mine_given = (((lit< tt, replied_bytes), spare_is.bytes), (((lit< tt, their_offer), spare_is.bytes), (seed_is.bytes, tt)));
+        their_given = (((lit< tt, asked_bytes), spare_is.bytes), (((lit< tt, (law.pid_byte, mine_offer)), answering_is.bytes), tt));
+        mine_clear = both_gone root last (n + 1) value mine_link (omega arith);
+        their_clear = both_gone root last' (n' + 1) value their_link (omega arith);
       })
+
+  -- and for SSE
 
   share : n + 1 ≤ last → n' + 1 ≤ last' → (more : ℕ) → 16 ≤ more → Told s more (activated s Sse meeting)
   share h h' more big =
-      let t4 : Turn = stepped (sharing (agreed_suite root last' (n' + 1) value) ConfirmedSse Sse Recipient no_seed (n' + 1)) conf.Established 0 (said_by Sse (vfy_res replied)) in
-      let t5 : Turn = stepped (sharing (agreed_suite root last (n + 1) value) ConfirmedSse Sse Sender seed (n + 1)) conf.Established 0 [] in
+      let turn4 : Turn = stepped (their_sharing ConfirmedSse Sse) conf.Established 0 (said_by Sse (vfy_res replied)) in
+      let turn5 : Turn = stepped (mine_sharing ConfirmedSse Sse) conf.Established 0 [] in
+      let fourth : turn s (their_sharing EstablishedRecipient Sse) (frame (said_by Sse (vfy_req asked)) spare room) ≡ turn4 =
+      confirm_sse s root last' (n' + 1) room wide value spare (sixteen spare_is) asked replied asked_alike refl (asked_fits Sse) in
+      let fifth : turn s (mine_sharing EstablishedSender Sse) (frame (said_by Sse (vfy_res replied)) spare room) ≡ turn5 =
+      complete_sse s root last (n + 1) room wide value spare (sixteen spare_is) asked replied refl replied_alike seed (replied_fits Sse) in
       let told = tell_is s root last (n + 1) Sender seed value more (le-ltb more 16 big) in
       let told' = tell_is s root last' (n' + 1) Recipient no_seed value more (le-ltb more 16 big) in
-      five s Sse meeting (Told s more) (turn1 Sse) (turn2 Sse) (turn3 Sse) t4 t5 (first Sse) (second Sse (omega arith)) (third Sse (omega arith))
-      (confirm_sse s root last' (n' + 1) room wide value spare (sixteen spare_is) asked replied asked_alike refl (fits Sse (vfy_req asked) (check_most (n + 1) 1 refl)))
-      (complete_sse s root last (n + 1) room wide value spare (sixteen spare_is) asked replied refl replied_alike seed (fits Sse (vfy_res replied) (check_most (n' + 1) 2 refl)))
+      five s Sse meeting (Told s more) (turn1 Sse) (turn2 Sse) (turn3 Sse) turn4 turn5
+      (first Sse) (second Sse (omega arith)) (third Sse (omega arith)) fourth fifth
       (record {
         shared = record {
           mine = refl;
@@ -195,15 +258,13 @@ module _ (s : Scheme) (law : Lawful s) (free : SerialFree s) (root : List ℕ) (
       })
 
 -- any two suites with one root and no key
-as_bare : (v : Service) (x : Meeting) → Ready v x → x ≡ record { mine = bare x.mine.root x.mine.last x.mine.newest; theirs = bare x.mine.root x.theirs.last x.theirs.newest; seed = x.seed; answering = x.answering; spare = x.spare; room = x.room }
+as_bare : (v : Service) (x : Meeting) → Ready v x
+    → x ≡ record x { mine = bare x.mine.root x.mine.last x.mine.newest; theirs = bare x.mine.root x.theirs.last x.theirs.newest }
 as_bare v x r =
-    let a = r.roots in
-    let b = r.mine_none in
-    let c = r.theirs_none in
-    let m : record { root = x.mine.root; last = x.mine.last; newest = x.mine.newest; live = x.mine.live } ≡ bare x.mine.root x.mine.last x.mine.newest = cc in
-    let t : record { root = x.theirs.root; last = x.theirs.last; newest = x.theirs.newest; live = x.theirs.live } ≡ bare x.mine.root x.theirs.last x.theirs.newest = cc in
-    ap (λ z. record { mine = z; theirs = x.theirs; seed = x.seed; answering = x.answering; spare = x.spare; room = x.room }) m
-    ∙ ap (λ z. record { mine = bare x.mine.root x.mine.last x.mine.newest; theirs = z; seed = x.seed; answering = x.answering; spare = x.spare; room = x.room }) t
+    let m : x.mine ≡ bare x.mine.root x.mine.last x.mine.newest = ap (λ z. record x.mine { live = z }) r.mine_none in
+    let t : x.theirs ≡ bare x.mine.root x.theirs.last x.theirs.newest =
+    ap (λ z. record x.theirs { live = z }) r.theirs_none ∙ ap (λ z. bare z x.theirs.last x.theirs.newest) r.roots in
+    ap (λ z. record x { mine = z }) m ∙ ap (λ z. record x { mine = bare x.mine.root x.mine.last x.mine.newest; theirs = z }) t
 
 their_base : {v : Service} {x : Meeting} → Ready v x → Base x.mine.root x.theirs.last x.theirs.newest
 their_base r = record { root_is = r.mine_formed.root; below = r.theirs_formed.newest; word = r.theirs_formed.last }
@@ -235,10 +296,16 @@ new_run s means = record { calls = []; bytes = tt; model = refl; past = refl }
 pub mine_activated : (s : Scheme) (x : Meeting) → Started s (activated s Sch x) → IsRun s x.mine (completes s Sch x)
 mine_activated s x start =
     let given : End → Call = λ e. frame (last_written e.past) x.spare x.room in
-    run_called s x.mine (given (verifies s Sch x)) start.mine_given.0 (run_called s x.mine (given (replies s Sch x)) start.mine_given.1.0 (run_called s x.mine (invoke Sch s.pid x.seed x.room) start.mine_given.1.1.0 (new_run s x.mine)))
+    run_called s x.mine (given (verifies s Sch x)) start.mine_given.0
+    (run_called s x.mine (given (replies s Sch x)) start.mine_given.1.0
+    (run_called s x.mine (invoke Sch s.pid x.seed x.room) start.mine_given.1.1.0
+    (new_run s x.mine)))
 
 pub theirs_activated : (s : Scheme) (x : Meeting) → Started s (activated s Sch x) → IsRun s x.theirs (verifies s Sch x)
-theirs_activated s x start = run_called s x.theirs (frame (last_written (checks s Sch x).past) x.spare x.room) start.their_given.0 (run_called s x.theirs (frame (last_written (asks s Sch x).past) x.answering x.room) start.their_given.1.0 (new_run s x.theirs))
+theirs_activated s x start =
+    run_called s x.theirs (frame (last_written (checks s Sch x).past) x.spare x.room) start.their_given.0
+    (run_called s x.theirs (frame (last_written (asks s Sch x).past) x.answering x.room) start.their_given.1.0
+    (new_run s x.theirs))
 
 -- The premises.
 

@@ -1,5 +1,5 @@
 -- What two users get whose new entities are linked, and that no key is left once they part.
-use Rattle.std.proofs.Common.{◌≡◌, ℕ, ◌+◌, ◌≤◌, List, [], ◌∷◌, ◌++◌, length, None, sym, refl, ap, ◌∙◌, subst, arith, lit≤}
+use Rattle.std.proofs.Common.{◌≡◌, ◌+◌, ◌≤◌, List, [], ◌∷◌, ◌++◌, length, None, sym, refl, ap, ◌∙◌, subst, arith, lit≤}
 use Rattle.frame.specs.declared.types.Service.{Service}
 use Rattle.frame.specs.declared.types.Service.TheVariants.{Sse, Sch}
 use Rattle.frame.specs.Frames.{tmn}
@@ -9,7 +9,7 @@ use Rattle.protocol.specs.declared.outcomes.Confirmation.TheVariants as conf
 use Rattle.protocol.specs.Models.{Model, idle}
 use Rattle.protocol.specs.Steps.{said_by}
 use Rattle.protocol.specs.Calls.{terminate, frame, Turn, turn, ended}
-use Rattle.histories.specs.Histories.{History, entered, sent, handed}
+use Rattle.histories.specs.Histories.{History, entered}
 use Rattle.exchanges.specs.Duos.{Duo, Meeting, turned, activated, Line, talked, said_here, said_there, parted}
 use Rattle.exchanges.specs.Exchanges.{Ready, Confirmed, AllFit, TalkSucceeds, Parted, PartingSucceeds, NoneLeft, EndsWell, LinkEnds, SecretEnds}
 use Rattle.exchanges.proofs.Shapes.{Clears}

@@ -13,7 +13,7 @@ use Rattle.protocol.specs.Models.{Model, fresh}
 use Rattle.protocol.specs.Steps.{said_by}
 use Rattle.protocol.specs.Calls.{Call, send, retrieve_data, frame, Turn, turn}
 use Rattle.histories.specs.Histories.{History, GivenBytes, entered, after, confirms, answers, sent, handed}
-use Rattle.exchanges.specs.Duos.{End, Duo, called, last_answer, last_written, Meeting, hears, Line, here, there, turned, passed, talked, said_here, said_there}
+use Rattle.exchanges.specs.Duos.{End, Duo, called, last_answer, last_written, Meeting, Line, here, there, turned, passed, talked, said_here, said_there}
 use Rattle.exchanges.specs.Exchanges.{opposite, Confirmed, InLink, Matched, Fit, AllFit, HandedOver, RecordsPass, RecordPasses, IsRun}
 use Rattle.exchanges.proofs.Shapes.{session, value_is}
 use Rattle.exchanges.proofs.Turns.{stepped, role_ok, send_is, hear_is, data_is}
@@ -97,16 +97,16 @@ module _ (s : Scheme) (law : Lawful s) (x : Meeting) (spare : Bytes16 x.spare) (
       let ok = role_ok role in
       let can : Sealable s (number + 1) plain = record { some = some; most = most; bytes = fit.bytes; low = omega arith; high = omega arith } in
       let size : length payload ≡ length plain + s.overhead =
-          law.seal_long means.root value plain link (role_byte role) (number + 1) formed.root value16 ok in
+      law.seal_long means.root value plain link (role_byte role) (number + 1) formed.root value16 ok in
       let short : length payload ≤ 254 = omega arith in
       let opens : s.open_of means'.root link' value payload ≡ Some (role_byte role, number + 1, plain) =
-          law.opens means.root means'.root value plain link link' (role_byte role) (number + 1) formed.root formed'.root value16 ok can in
+      law.opens means.root means'.root value plain link link' (role_byte role) (number + 1) formed.root formed'.root value16 ok can in
       let first : turn s m (send plain x.room) ≡ sends =
-          send_is s law means role seed number secret link x.room value plain enough some most [] key below in
+      send_is s law means role seed number secret link x.room value plain enough some most [] key below in
       let second : turn s m' (frame (said_by Sch (enc payload)) x.spare x.room) ≡ takes =
-          hear_is s law means' role seed' number secret' link' x.room value plain enough some most payload x.spare spare.long short key' below opens in
+      hear_is s law means' role seed' number secret' link' x.room value plain enough some most payload x.spare spare.long short key' below opens in
       let third : turn s takes.model (retrieve_data x.room) ≡ gives =
-          data_is s law means' role seed' (number + 1) secret' link' x.room value plain enough some most (opposite role) in
+      data_is s law means' role seed' (number + 1) secret' link' x.room value plain enough some most (opposite role) in
       let end : P sends takes gives = record {
         matched = record {
           value = value;

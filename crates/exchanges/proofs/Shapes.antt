@@ -1,5 +1,5 @@
 -- What two entities are between the calls of an exchange.
-use Rattle.std.proofs.Common.{◌≡◌, ℕ, ◌+◌, ◌^◌, ◌<◌, ◌≤◌, Bool, true, false, cond, ◌&&◌, eqb, List, [], ◌∷◌, Some, None, Option, subst, refl, arith}
+use Rattle.std.proofs.Common.{◌≡◌, ℕ, ◌+◌, ◌^◌, ◌<◌, ◌≤◌, Bool, true, false, cond, ◌&&◌, eqb, List, [], ◌∷◌, Some, Option, subst, refl, arith}
 use Rattle.std.specs.List.{AllByRecursion}
 use Rattle.std.proofs.lemmas.Bool.{ne_eqb, eq-eqb, or_from}
 use Rattle.frame.specs.declared.types.Service.{Service}
@@ -11,6 +11,7 @@ use Rattle.suite.specs.declared.types.KeyKind.TheVariants.{SharedSecret, LinkKey
 use Rattle.suite.specs.Meanings.{Key, Meaning, Bytes16, WellFormed, same_kind, value_in}
 use Rattle.protocol.specs.declared.states.State.{State}
 use Rattle.protocol.specs.declared.states.State.TheVariants.{Select, ConfirmedSch}
+use Rattle.exchanges.specs.Exchanges.{InLink}
 use Rattle.protocol.specs.Models.{Model, fresh, idle, without_key}
 
 -- Suites.
@@ -46,7 +47,7 @@ pub record Base (root : List ℕ) (last newest : ℕ) : Type 0 where
 pub base_of : {means : Meaning} → WellFormed means → Base means.root means.last means.newest
 base_of f = record { root_is = f.root; below = f.newest; word = f.last }
 
-pub linked_formed : (root : List ℕ) (last serial : ℕ) (value link : List ℕ) → Base root last (serial + 1) → 0 < serial
+linked_formed : (root : List ℕ) (last serial : ℕ) (value link : List ℕ) → Base root last (serial + 1) → 0 < serial
     → Bytes16 value → Bytes16 link → WellFormed (linked_suite root last serial value link)
 linked_formed root last serial value link base some v l =
     let low : 1 ≤ serial = some in
@@ -79,7 +80,7 @@ value_is (k ∷ keys) kind serial value all e =
     first_is (eqb k.serial serial && same_kind k.kind kind) k.value value (value_in keys kind serial) all.0 (value_is keys kind serial value all.1) e
 
 -- the link key is found under its serial
-pub link_found : (root : List ℕ) (last serial : ℕ) (value link : List ℕ)
+link_found : (root : List ℕ) (last serial : ℕ) (value link : List ℕ)
     → value_in (linked_suite root last serial value link).live LinkKey (serial + 1) ≡ Some link
 link_found root last serial value link =
     let apart : eqb serial (serial + 1) ≡ false = ne_eqb serial (serial + 1) (λ e. omega arith) in
@@ -132,3 +133,14 @@ session means role seed number held secret link = record {
 -- once Idle is entered no key is left
 abbrev pub Clears : Model → Type 0
 Clears m = (idle m).means.live ≡ []
+
+-- an entity that has just been linked, or has sent and received, with nothing held
+pub linked_in : (root : List ℕ) (last serial : ℕ) (value link : List ℕ) (role : Role) (seed : List ℕ) (number : ℕ)
+    → Base root last (serial + 1) → 0 < serial → Bytes16 value → Bytes16 link
+    → InLink link (session (linked_suite root last serial value link) role seed number [] serial (serial + 1))
+linked_in root last serial value link role seed number base some v l = record {
+  formed = linked_formed root last serial value link base some v l;
+  confirmed = record { state = refl; service = refl };
+  none_held = refl;
+  key = link_found root last serial value link;
+}

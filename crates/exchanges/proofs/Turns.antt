@@ -1,7 +1,8 @@
 -- What each call of an exchange does.
-use Rattle.std.proofs.Common.{◌≡◌, ℕ, ◌+◌, ◌<◌, ◌≤◌, true, false, not, ◌&&◌, eqb, ltb, leb, List, [], ◌∷◌, length, Some, None, Ok, sym, refl, ap, ◌∙◌, subst, arith}
+use Rattle.std.proofs.Common.{◌≡◌, ℕ, ◌+◌, ◌<◌, ◌≤◌, true, false, eqb, ltb, leb, List, [], length, Some, None, Ok, refl, arith}
 use Rattle.std.specs.Str.{bytes_eq}
 use Rattle.std.proofs.lemmas.Bool.{le-ltb, lt-leb, eq-eqb, ne_eqb}
+use Rattle.std.proofs.lemmas.Slice.Eq.{bytes_eq-Decides}
 use Rattle.frame.specs.declared.types.Service.{Service}
 use Rattle.frame.specs.declared.types.Service.TheVariants.{Sse, Sch}
 use Rattle.frame.specs.Frames.{act_req, act_res, vfy_req, vfy_res, enc, tmn}
@@ -27,8 +28,7 @@ abbrev pub stepped : Model → Confirmation → ℕ → List ℕ → Turn
 stepped m confirmation made reply = record { model = m; answer = Ok (quiet confirmation (length reply) made); reply = reply }
 
 same_bytes : (p : List ℕ) → bytes_eq p p ≡ true
-same_bytes [] = refl
-same_bytes (y ∷ p) = let e = eq-eqb y y refl in let t = same_bytes p in rw (e, t)
+same_bytes p = (bytes_eq-Decides p p).1 refl
 
 -- Activations.
 
