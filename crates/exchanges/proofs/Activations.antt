@@ -200,20 +200,30 @@ module _ (s : Scheme) (law : Lawful s) (free : SerialFree s) (root : List ℕ) (
         theirs_at = ap (λ z. z.number) e';
       }
 
+  abbrev turn4_sch : Turn
+  turn4_sch = stepped their_linked conf.Established ((n' + 1) + 1) (said_by Sch (vfy_res replied))
+
+  abbrev turn5_sch : Turn
+  turn5_sch = stepped mine_linked conf.Established ((n + 1) + 1) []
+
+  fourth_sch : n' + 2 ≤ last' → turn s (their_sharing EstablishedRecipient Sch) (frame (said_by Sch (vfy_req asked)) spare room) ≡ turn4_sch
+  fourth_sch h' =
+      let more = left (n' + 1) last' (omega arith) in
+      confirm_sch s root last' (n' + 1) room wide value spare (sixteen spare_is) asked replied asked_alike refl (asked_fits Sch) more
+
+  fifth_sch : n + 2 ≤ last → turn s (mine_sharing EstablishedSender Sch) (frame (said_by Sch (vfy_res replied)) spare room) ≡ turn5_sch
+  fifth_sch h =
+      let more = left (n + 1) last (omega arith) in
+      complete_sch s root last (n + 1) room wide value spare (sixteen spare_is) asked replied refl replied_alike seed (replied_fits Sch) more
+
   link_up : n + 2 ≤ last → n' + 2 ≤ last' → Started s (activated s Sch meeting)
   link_up h h' =
-      let turn4 : Turn = stepped their_linked conf.Established ((n' + 1) + 1) (said_by Sch (vfy_res replied)) in
-      let turn5 : Turn = stepped mine_linked conf.Established ((n + 1) + 1) [] in
-      let fourth : turn s (their_sharing EstablishedRecipient Sch) (frame (said_by Sch (vfy_req asked)) spare room) ≡ turn4 =
-      confirm_sch s root last' (n' + 1) room wide value spare (sixteen spare_is) asked replied asked_alike refl (asked_fits Sch) (left (n' + 1) last' (omega arith)) in
-      let fifth : turn s (mine_sharing EstablishedSender Sch) (frame (said_by Sch (vfy_res replied)) spare room) ≡ turn5 =
-      complete_sch s root last (n + 1) room wide value spare (sixteen spare_is) asked replied refl replied_alike seed (replied_fits Sch) (left (n + 1) last (omega arith)) in
       let mine_offer = law.offer_bytes root seed base.root_is seed_is in
       let their_offer = law.offer_bytes root answering base.root_is answering_is in
       let asked_bytes = law.check_bytes root value (n + 1) 1 base.root_is value16 refl in
       let replied_bytes = law.check_bytes root value (n' + 1) 2 base.root_is value16 refl in
-      five s Sch meeting (Started s) (turn1 Sch) (turn2 Sch) (turn3 Sch) turn4 turn5
-      (first Sch) (second Sch (omega arith)) (third Sch (omega arith)) fourth fifth
+      five s Sch meeting (Started s) (turn1 Sch) (turn2 Sch) (turn3 Sch) turn4_sch turn5_sch
+      (first Sch) (second Sch (omega arith)) (third Sch (omega arith)) (fourth_sch h') (fifth_sch h)
       (record {
         linked = record {
           mine = refl;
@@ -230,18 +240,24 @@ module _ (s : Scheme) (law : Lawful s) (free : SerialFree s) (root : List ℕ) (
 
   -- and for SSE
 
+  abbrev turn4_sse : Turn
+  turn4_sse = stepped (their_sharing ConfirmedSse Sse) conf.Established 0 (said_by Sse (vfy_res replied))
+
+  abbrev turn5_sse : Turn
+  turn5_sse = stepped (mine_sharing ConfirmedSse Sse) conf.Established 0 []
+
+  fourth_sse : turn s (their_sharing EstablishedRecipient Sse) (frame (said_by Sse (vfy_req asked)) spare room) ≡ turn4_sse
+  fourth_sse = confirm_sse s root last' (n' + 1) room wide value spare (sixteen spare_is) asked replied asked_alike refl (asked_fits Sse)
+
+  fifth_sse : turn s (mine_sharing EstablishedSender Sse) (frame (said_by Sse (vfy_res replied)) spare room) ≡ turn5_sse
+  fifth_sse = complete_sse s root last (n + 1) room wide value spare (sixteen spare_is) asked replied refl replied_alike seed (replied_fits Sse)
+
   share : n + 1 ≤ last → n' + 1 ≤ last' → (more : ℕ) → 16 ≤ more → Told s more (activated s Sse meeting)
   share h h' more big =
-      let turn4 : Turn = stepped (their_sharing ConfirmedSse Sse) conf.Established 0 (said_by Sse (vfy_res replied)) in
-      let turn5 : Turn = stepped (mine_sharing ConfirmedSse Sse) conf.Established 0 [] in
-      let fourth : turn s (their_sharing EstablishedRecipient Sse) (frame (said_by Sse (vfy_req asked)) spare room) ≡ turn4 =
-      confirm_sse s root last' (n' + 1) room wide value spare (sixteen spare_is) asked replied asked_alike refl (asked_fits Sse) in
-      let fifth : turn s (mine_sharing EstablishedSender Sse) (frame (said_by Sse (vfy_res replied)) spare room) ≡ turn5 =
-      complete_sse s root last (n + 1) room wide value spare (sixteen spare_is) asked replied refl replied_alike seed (replied_fits Sse) in
       let told = tell_is s root last (n + 1) Sender seed value more (le-ltb more 16 big) in
       let told' = tell_is s root last' (n' + 1) Recipient no_seed value more (le-ltb more 16 big) in
-      five s Sse meeting (Told s more) (turn1 Sse) (turn2 Sse) (turn3 Sse) turn4 turn5
-      (first Sse) (second Sse (omega arith)) (third Sse (omega arith)) fourth fifth
+      five s Sse meeting (Told s more) (turn1 Sse) (turn2 Sse) (turn3 Sse) turn4_sse turn5_sse
+      (first Sse) (second Sse (omega arith)) (third Sse (omega arith)) fourth_sse fifth_sse
       (record {
         shared = record {
           mine = refl;

@@ -9,12 +9,12 @@ use Rattle.protocol.specs.declared.outcomes.Confirmation.TheVariants as conf
 use Rattle.protocol.specs.Models.{Model, idle}
 use Rattle.protocol.specs.Steps.{said_by}
 use Rattle.protocol.specs.Calls.{terminate, frame, Turn, turn, ended}
-use Rattle.histories.specs.Histories.{History, entered}
+use Rattle.histories.specs.Histories.{entered}
 use Rattle.exchanges.specs.Duos.{Duo, Meeting, turned, activated, Line, talked, said_here, said_there, parted}
 use Rattle.exchanges.specs.Exchanges.{Ready, Confirmed, AllFit, TalkSucceeds, Parted, PartingSucceeds, NoneLeft, EndsWell, LinkEnds, SecretEnds}
 use Rattle.exchanges.proofs.Shapes.{Clears}
 use Rattle.exchanges.proofs.Turns.{part_is, parted_is}
-use Rattle.exchanges.proofs.Records.{SameKeys, duo, Goes, talk_goes}
+use Rattle.exchanges.proofs.Records.{SameKeys, Goes, talk_goes}
 use Rattle.exchanges.proofs.Activations.{Started, link_starts, secret_told, mine_activated, theirs_activated}
 
 -- A talk after an activation.
@@ -47,21 +47,36 @@ record LeftIdle (d e : Duo) : Type 0 where
   mine : e.one.model ≡ idle d.one.model
   theirs : e.other.model ≡ idle d.other.model
 
-left_idle : (s : Scheme) (x : Meeting) → Bytes16 x.spare → 255 ≤ x.room → (v : Service) (d : Duo)
-    → Confirmed v d.one.model → Confirmed v d.other.model → LeftIdle d (parted s x d)
-left_idle s x spare enough v d mine theirs =
-    let a = d.one.model in
-    let b = d.other.model in
-    let ends : Turn = ended a conf.Terminated (said_by v (tmn [])) None in
-    let ends' : Turn = ended b conf.Terminated [] None in
-    let first : turn s a (terminate x.room) ≡ ends = part_is s a x.room enough v mine in
-    let second : turn s b (frame (said_by v (tmn [])) x.spare x.room) ≡ ends' = parted_is s b x.room enough v x.spare theirs spare in
-    let past : Turn → History = λ y. entered (terminate x.room) y ∷ d.one.past in
-    let past' : Turn → Turn → History = λ y z. entered (frame y.reply x.spare x.room) z ∷ d.other.past in
-    let P : Turn → Turn → Type 0 = λ y z. LeftIdle d (duo y.model (past y) z.model (past' y z)) in
-    let parts : Parted (duo (idle a) (past ends) (idle b) (past' ends ends')) = record { mine = refl; theirs = refl; mine_idle = refl; theirs_idle = refl } in
-    let end : P ends ends' = record { parted = parts; mine = refl; theirs = refl } in
-    subst (λ y. P y (turn s b (frame y.reply x.spare x.room))) (sym first) (subst (λ z. P ends z) (sym second) end)
+module _ (s : Scheme) (x : Meeting) (spare : Bytes16 x.spare) (enough : 255 ≤ x.room) (v : Service) (d : Duo)
+    (mine : Confirmed v d.one.model) (theirs : Confirmed v d.other.model) where
+  -- the two calls, by what they do
+  abbrev ends : Turn
+  ends = ended d.one.model conf.Terminated (said_by v (tmn [])) None
+
+  abbrev ends' : Turn
+  ends' = ended d.other.model conf.Terminated [] None
+
+  first : turn s d.one.model (terminate x.room) ≡ ends
+  first = part_is s d.one.model x.room enough v mine
+
+  second : turn s d.other.model (frame ends.reply x.spare x.room) ≡ ends'
+  second = parted_is s d.other.model x.room enough v x.spare theirs spare
+
+  -- the two after these calls
+  abbrev after_calls : Turn → Turn → Duo
+  after_calls a b = record {
+    one = record { model = a.model; past = entered (terminate x.room) a ∷ d.one.past };
+    other = record { model = b.model; past = entered (frame a.reply x.spare x.room) b ∷ d.other.past };
+  }
+
+  ended_by : LeftIdle d (after_calls ends ends')
+  ended_by = record { parted = record { mine = refl; theirs = refl; mine_idle = refl; theirs_idle = refl }; mine = refl; theirs = refl }
+
+  left_idle : LeftIdle d (parted s x d)
+  left_idle =
+      let hear : Turn → Turn = λ z. turn s d.other.model (frame z.reply x.spare x.room) in
+      subst (λ z. LeftIdle d (after_calls z (hear z))) (sym first)
+      (subst (λ z. LeftIdle d (after_calls ends z)) (sym second) ended_by)
 
 pub parting_succeeds : PartingSucceeds
 parting_succeeds s x spare enough v d mine theirs = (left_idle s x spare enough v d mine theirs).parted

@@ -1,12 +1,12 @@
 -- A record that is sent in one of two matched link sessions is handed out in the other.
-use Rattle.std.proofs.Common.{◌≡◌, ℕ, ◌+◌, ◌<◌, ◌≤◌, true, List, [], ◌∷◌, ◌++◌, length, Some, sym, refl, ap, ◌∙◌, subst, append_assoc, append-nil, arith, lit<}
+use Rattle.std.proofs.Common.{◌≡◌, ℕ, ◌+◌, ◌<◌, ◌≤◌, true, false, eqb, List, [], ◌∷◌, ◌++◌, length, Some, sym, refl, ap, ◌∙◌, subst, append_assoc, append-nil, arith, lit<}
 use Rattle.frame.specs.declared.types.Service.TheVariants.{Sch}
 use Rattle.frame.specs.Frames.{enc}
 use Rattle.suite.specs.declared.types.Role.{Role}
 use Rattle.suite.specs.declared.types.Role.TheVariants.{Sender, Recipient}
 use Rattle.suite.specs.declared.types.KeyKind.TheVariants.{LinkKey}
 use Rattle.suite.specs.Numbers.{role_byte}
-use Rattle.suite.specs.Meanings.{Meaning, Bytes, Bytes16, WellFormed, value_in}
+use Rattle.suite.specs.Meanings.{Meaning, Bytes, Bytes16}
 use Rattle.suite.specs.Schemes.{Scheme, Lawful, Sealable}
 use Rattle.protocol.specs.declared.outcomes.Confirmation.TheVariants as conf
 use Rattle.protocol.specs.Models.{Model, fresh}
@@ -14,8 +14,8 @@ use Rattle.protocol.specs.Steps.{said_by}
 use Rattle.protocol.specs.Calls.{Call, send, retrieve_data, frame, Turn, turn}
 use Rattle.histories.specs.Histories.{History, GivenBytes, entered, after, confirms, answers, sent, handed}
 use Rattle.exchanges.specs.Duos.{End, Duo, called, last_answer, last_written, Meeting, Line, here, there, turned, passed, talked, said_here, said_there}
-use Rattle.exchanges.specs.Exchanges.{opposite, Confirmed, InLink, Matched, Fit, AllFit, HandedOver, RecordsPass, RecordPasses, IsRun}
-use Rattle.exchanges.proofs.Shapes.{session, value_is}
+use Rattle.exchanges.specs.Exchanges.{opposite, InLink, Matched, Fit, AllFit, HandedOver, RecordsPass, RecordPasses, IsRun}
+use Rattle.exchanges.proofs.Shapes.{value_is}
 use Rattle.exchanges.proofs.Turns.{stepped, role_ok, send_is, hear_is, data_is}
 
 -- an entity over the same suite that names the same keys
@@ -38,14 +38,7 @@ run_called s means {e} c given r = record {
       ∙ ap (λ z. entered c (turn s (after s (fresh means) r.calls) c) ∷ z) r.past;
 }
 
--- One record, between entities that are written out.
-
-in_sch : {means : Meaning} {role : Role} {seed : List ℕ} {number : ℕ} {held : List ℕ} {secret link : ℕ}
-    → Confirmed Sch (session means role seed number held secret link)
-in_sch = record { state = refl; service = refl }
-
-abbrev pub duo : Model → History → Model → History → Duo
-duo m h m' h' = record { one = record { model = m; past = h }; other = record { model = m'; past = h' } }
+-- One record.
 
 abbrev earlier : History → History
 earlier [] = []
@@ -63,93 +56,122 @@ record Passed (number : ℕ) (d : Duo) (plain : List ℕ) (e : Duo) : Type 0 whe
   mine_keys : SameKeys d.one.model e.one.model
   their_keys : SameKeys d.other.model e.other.model
 
--- an entity in a link session, written out
-as_session : (m : Model) (value : List ℕ) (role : Role) (number : ℕ) → InLink value m → m.role ≡ role → m.number ≡ number
-    → m ≡ session m.means role m.seed number [] m.secret m.link
-as_session m value role number i er en =
-    let state = i.confirmed.state in
-    let service = i.confirmed.service in
-    let none = i.none_held in
-    let whole : record m { state = m.state } ≡ session m.means role m.seed number [] m.secret m.link = cc in
-    whole
+-- an entity in a link session, at another number with nothing held
+moved : {value : List ℕ} {m : Model} (number : ℕ) {held : List ℕ} → held ≡ [] → InLink value m → InLink value (record m { number = number; held = held })
+moved number none i = record {
+  formed = i.formed;
+  confirmed = record { state = i.confirmed.state; service = i.confirmed.service };
+  none_held = none;
+  key = i.key;
+}
 
-module _ (s : Scheme) (law : Lawful s) (x : Meeting) (spare : Bytes16 x.spare) (enough : 255 ≤ x.room) where
-  pass_session : (means means' : Meaning) (role : Role) (seed seed' : List ℕ) (number secret secret' link link' : ℕ) (value plain : List ℕ)
-      (h h' : History) → WellFormed means → WellFormed means' → Fit plain → s.first ≤ number → number < s.final
-      → value_in means.live LinkKey link ≡ Some value → value_in means'.live LinkKey link' ≡ Some value
-      → let d = duo (session means role seed number [] secret link) h (session means' (opposite role) seed' number [] secret' link') h' in
-      Passed number d plain (passed s x d plain)
-  pass_session means means' role seed seed' number secret secret' link link' value plain h h' formed formed' fit low below key key' =
-      let payload : List ℕ = s.seal_of means.root link value (role_byte role) (number + 1) plain in
-      let m : Model = session means role seed number [] secret link in
-      let m' : Model = session means' (opposite role) seed' number [] secret' link' in
-      let d : Duo = duo m h m' h' in
-      let some : 0 < length plain = fit.some in
-      let most : length plain ≤ 200 = fit.most in
-      let sends : Turn = stepped (session means role seed (number + 1) [] secret link) conf.DataSent 0 (said_by Sch (enc payload)) in
-      let takes : Turn = stepped (session means' (opposite role) seed' (number + 1) plain secret' link') conf.DataAvailable 0 [] in
-      let gives : Turn = stepped (session means' (opposite role) seed' (number + 1) [] secret' link') conf.Nothing 0 plain in
-      let past : Turn → History = λ a. entered (send plain x.room) a ∷ h in
-      let past' : Turn → Turn → Turn → History = λ a b c. entered (retrieve_data x.room) c ∷ entered (frame a.reply x.spare x.room) b ∷ h' in
-      let P : Turn → Turn → Turn → Type 0 = λ a b c. Passed number d plain (duo a.model (past a) c.model (past' a b c)) in
-      let over = law.overhead_bound in
-      let value16 : Bytes16 value = value_is means.live LinkKey link value formed.values key in
-      let ok = role_ok role in
-      let can : Sealable s (number + 1) plain = record { some = some; most = most; bytes = fit.bytes; low = omega arith; high = omega arith } in
-      let size : length payload ≡ length plain + s.overhead =
-      law.seal_long means.root value plain link (role_byte role) (number + 1) formed.root value16 ok in
-      let short : length payload ≤ 254 = omega arith in
-      let opens : s.open_of means'.root link' value payload ≡ Some (role_byte role, number + 1, plain) =
-      law.opens means.root means'.root value plain link link' (role_byte role) (number + 1) formed.root formed'.root value16 ok can in
-      let first : turn s m (send plain x.room) ≡ sends =
-      send_is s law means role seed number secret link x.room value plain enough some most [] key below in
-      let second : turn s m' (frame (said_by Sch (enc payload)) x.spare x.room) ≡ takes =
-      hear_is s law means' role seed' number secret' link' x.room value plain enough some most payload x.spare spare.long short key' below opens in
-      let third : turn s takes.model (retrieve_data x.room) ≡ gives =
-      data_is s law means' role seed' (number + 1) secret' link' x.room value plain enough some most (opposite role) in
-      let end : P sends takes gives = record {
-        matched = record {
-          value = value;
-          mine = record { formed = formed; confirmed = in_sch; none_held = refl; key = key };
-          theirs = record { formed = formed'; confirmed = in_sch; none_held = refl; key = key' };
-          roles = refl;
-          mine_at = refl;
-          theirs_at = refl;
-        };
-        over = record {
-          sent_here = refl;
-          handed_there = ap (λ z. z ++ (plain ∷ [])) (append-nil (handed h'));
-          sent_there = append-nil (sent h' ++ []);
-          handed_here = refl;
-        };
-        confirmed = refl;
-        available = refl;
-        retrieved = refl;
-        exactly = refl;
-        bytes = (lit< tt, law.seal_bytes means.root value plain link (role_byte role) (number + 1) formed.root value16 ok can);
-        mine_keys = record { means = refl; secret = refl; link = refl };
-        their_keys = record { means = refl; secret = refl; link = refl };
-      } in
-      let hear : Turn → Turn = λ z. turn s m' (frame z.reply x.spare x.room) in
+opposite_differs : (r : Role) → eqb (role_byte r) (role_byte (opposite r)) ≡ false
+opposite_differs Sender = refl
+opposite_differs Recipient = refl
+
+module _ (s : Scheme) (law : Lawful s) (x : Meeting) (spare : Bytes16 x.spare) (enough : 255 ≤ x.room) (number : ℕ) (d : Duo)
+    (M : Matched number d) (plain : List ℕ) (fit : Fit plain) (low : s.first ≤ number) (below : number < s.final) where
+  abbrev sender : Model
+  sender = d.one.model
+
+  abbrev receiver : Model
+  receiver = d.other.model
+
+  abbrev role : ℕ
+  role = role_byte sender.role
+
+  abbrev payload : List ℕ
+  payload = s.seal_of sender.means.root sender.link M.value role (sender.number + 1) plain
+
+  value16 : Bytes16 M.value
+  value16 = value_is sender.means.live LinkKey sender.link M.value M.mine.formed.values M.mine.key
+
+  can : Sealable s (sender.number + 1) plain
+  can = let at = M.mine_at in record { some = fit.some; most = fit.most; bytes = fit.bytes; low = omega arith; high = omega arith }
+
+  size : length payload ≡ length plain + s.overhead
+  size = law.seal_long sender.means.root M.value plain sender.link role (sender.number + 1) M.mine.formed.root value16 (role_ok sender.role)
+
+  short : length payload ≤ 254
+  short = let most = fit.most in let over = law.overhead_bound in omega (arith, size)
+
+  sealed_bytes : Bytes payload
+  sealed_bytes = law.seal_bytes sender.means.root M.value plain sender.link role (sender.number + 1) M.mine.formed.root value16 (role_ok sender.role) can
+
+  opened : s.open_of receiver.means.root receiver.link M.value payload ≡ Some (role, receiver.number + 1, plain)
+  opened =
+      law.opens sender.means.root receiver.means.root M.value plain sender.link receiver.link role (sender.number + 1)
+      M.mine.formed.root M.theirs.formed.root value16 (role_ok sender.role) can
+      ∙ ap (λ z. Some (role, z + 1, plain)) (M.mine_at ∙ sym M.theirs_at)
+
+  differs : eqb role (role_byte receiver.role) ≡ false
+  differs = ap (λ z. eqb role (role_byte z)) M.roles ∙ opposite_differs sender.role
+
+  -- the three calls, by what they do
+  abbrev sends : Turn
+  sends = stepped (record sender { number = sender.number + 1 }) conf.DataSent 0 (said_by Sch (enc payload))
+
+  abbrev takes : Turn
+  takes = stepped (record receiver { number = receiver.number + 1; held = plain }) conf.DataAvailable 0 []
+
+  abbrev gives : Turn
+  gives = stepped (record receiver { number = receiver.number + 1; held = [] }) conf.Nothing 0 plain
+
+  first : turn s sender (send plain x.room) ≡ sends
+  first =
+      let at = M.mine_at in
+      send_is s law sender x.room enough plain fit M.value M.mine.confirmed M.mine.key (omega arith)
+
+  second : turn s receiver (frame sends.reply x.spare x.room) ≡ takes
+  second =
+      let at = M.theirs_at in
+      hear_is s law receiver x.room enough plain fit M.value payload x.spare role M.theirs (omega arith) short spare differs opened
+
+  third : turn s takes.model (retrieve_data x.room) ≡ gives
+  third =
+      let c = M.theirs.confirmed in
+      data_is s law takes.model x.room enough plain fit (record { state = c.state; service = c.service }) refl
+
+  -- the two after these calls
+  abbrev after_calls : Turn → Turn → Turn → Duo
+  after_calls a b c = record {
+    one = record { model = a.model; past = entered (send plain x.room) a ∷ d.one.past };
+    other = record { model = c.model; past = entered (retrieve_data x.room) c ∷ entered (frame a.reply x.spare x.room) b ∷ d.other.past };
+  }
+
+  passed_by : Passed number d plain (after_calls sends takes gives)
+  passed_by = record {
+    matched = record {
+      value = M.value;
+      mine = moved (sender.number + 1) M.mine.none_held M.mine;
+      theirs = moved (receiver.number + 1) refl M.theirs;
+      roles = M.roles;
+      mine_at = ap (λ z. z + 1) M.mine_at;
+      theirs_at = ap (λ z. z + 1) M.theirs_at;
+    };
+    over = record {
+      sent_here = refl;
+      handed_there = ap (λ z. z ++ (plain ∷ [])) (append-nil (handed d.other.past));
+      sent_there = append-nil (sent d.other.past ++ []);
+      handed_here = refl;
+    };
+    confirmed = refl;
+    available = refl;
+    retrieved = refl;
+    exactly = refl;
+    bytes = (lit< tt, sealed_bytes);
+    mine_keys = record { means = refl; secret = refl; link = refl };
+    their_keys = record { means = refl; secret = refl; link = refl };
+  }
+
+  pass : Passed number d plain (passed s x d plain)
+  pass =
+      let hear : Turn → Turn = λ z. turn s receiver (frame z.reply x.spare x.room) in
       let retrieve : Turn → Turn = λ z. turn s z.model (retrieve_data x.room) in
+      let P : Turn → Turn → Turn → Type 0 = λ a b c. Passed number d plain (after_calls a b c) in
       subst (λ z. P z (hear z) (retrieve (hear z))) (sym first)
       (subst (λ z. P sends z (retrieve z)) (sym second)
-      (subst (λ z. P sends takes z) (sym third) end))
-
-  -- and between any two that are matched
-  pass : (number : ℕ) (d : Duo) (plain : List ℕ) → Matched number d → Fit plain → s.first ≤ number → number < s.final
-      → Passed number d plain (passed s x d plain)
-  pass number d plain M fit low below =
-      let a = d.one.model in
-      let b = d.other.model in
-      let lit : Model = session a.means a.role a.seed number [] a.secret a.link in
-      let e : a ≡ lit = as_session a M.value a.role number M.mine refl M.mine_at in
-      let e' : b ≡ session b.means (opposite a.role) b.seed number [] b.secret b.link = as_session b M.value (opposite a.role) number M.theirs M.roles M.theirs_at in
-      let P : Model → Model → Type 0 = λ y z. let c = duo y d.one.past z d.other.past in Passed number c plain (passed s x c plain) in
-      subst (λ y. P y b) (sym e)
-      (subst (λ z. P lit z) (sym e')
-      (pass_session a.means b.means a.role a.seed b.seed number a.secret b.secret a.link b.link M.value plain d.one.past d.other.past
-      M.mine.formed M.theirs.formed fit low below M.mine.key M.theirs.key))
+      (subst (λ z. P sends takes z) (sym third) passed_by))
 
 -- Many records.
 
@@ -252,7 +274,7 @@ module _ (s : Scheme) (law : Lawful s) (x : Meeting) (spare : Bytes16 x.spare) (
   line_goes : (number : ℕ) (d : Duo) (plain : List ℕ) → Matched number d → Fit plain → s.first ≤ number → number < s.final
       → Goes s (number + 1) d (here plain ∷ []) (passed s x d plain)
   line_goes number d plain M fit low below =
-      let p = pass s law x spare enough number d plain M fit low below in
+      let p = pass s law x spare enough number d M plain fit low below in
       let heard : Call = frame (last_written (called s d.one (send plain x.room)).past) x.spare x.room in
       record {
         matched = p.matched;
@@ -282,5 +304,5 @@ records_pass s law x spare enough number d low M talk fit most =
 
 pub record_passes : RecordPasses
 record_passes s law x spare enough number d low below M plain fit =
-    let p = pass s law x spare enough number d plain M fit low below in
+    let p = pass s law x spare enough number d M plain fit low below in
     record { confirmed = p.confirmed; available = p.available; retrieved = p.retrieved; exactly = p.exactly; matched = p.matched }

@@ -10,7 +10,7 @@ use Rattle.suite.specs.declared.types.Role.{Role}
 use Rattle.suite.specs.declared.types.Role.TheVariants.{Sender, Recipient}
 use Rattle.suite.specs.declared.types.KeyKind.TheVariants.{LinkKey}
 use Rattle.suite.specs.Numbers.{role_byte}
-use Rattle.suite.specs.Meanings.{Meaning, Bytes16, value_in}
+use Rattle.suite.specs.Meanings.{Bytes16, value_in}
 use Rattle.suite.specs.Schemes.{Scheme, Lawful, ok_role}
 use Rattle.protocol.specs.declared.states.State.{State}
 use Rattle.protocol.specs.declared.states.State.TheVariants.{EstablishedSender, EstablishedRecipient, ConfirmedSse}
@@ -18,9 +18,9 @@ use Rattle.protocol.specs.declared.outcomes.Confirmation.{Confirmation}
 use Rattle.protocol.specs.declared.outcomes.Confirmation.TheVariants as conf
 use Rattle.protocol.specs.Outcomes.{quiet}
 use Rattle.protocol.specs.Models.{Model, fresh, no_seed}
-use Rattle.protocol.specs.Steps.{said_by, is_empty}
+use Rattle.protocol.specs.Steps.{said_by}
 use Rattle.protocol.specs.Calls.{Turn, invoke, send, retrieve_data, retrieve_secret, terminate, frame, turn, ended}
-use Rattle.exchanges.specs.Exchanges.{opposite, Confirmed}
+use Rattle.exchanges.specs.Exchanges.{Confirmed, InLink, Fit}
 use Rattle.exchanges.proofs.Shapes.{bare, agreed_suite, linked_suite, selecting, sharing, session}
 
 -- a call that meets no fault and destroys no key
@@ -39,11 +39,18 @@ module _ (s : Scheme) (root : List ℕ) (last n room : ℕ) (wide : ltb room 255
       ≡ stepped (selecting (bare root last n) v seed) conf.Nothing 0 (said_by v (act_req s.pid (s.offer_of root seed)))
   ask_is v seed long = let pid = eq-eqb s.pid s.pid refl in rw (wide, long, pid)
 
+  -- the two once they have a shared secret of this value
+  abbrev agreeing : Service → List ℕ → Model
+  agreeing v value = sharing (agreed_suite root last (n + 1) value) EstablishedRecipient v Recipient no_seed (n + 1)
+
+  abbrev asking : Service → List ℕ → List ℕ → Model
+  asking v seed value = sharing (agreed_suite root last (n + 1) value) EstablishedSender v Sender seed (n + 1)
+
   -- ACT_REQ
-  pub reply_is : (v : Service) (offer seed : List ℕ) → eqb (length seed) 16 ≡ true → ltb 255 (length (said_by v (act_req s.pid offer))) ≡ false
-      → s.fit_of root offer ≡ true → eqb n last ≡ false → let value = s.secret_of root (n + 1) 2 seed offer in
-      turn s (fresh (bare root last n)) (frame (said_by v (act_req s.pid offer)) seed room)
-      ≡ stepped (sharing (agreed_suite root last (n + 1) value) EstablishedRecipient v Recipient no_seed (n + 1)) conf.Nothing (n + 1) (said_by v (act_res (s.offer_of root seed)))
+  pub reply_is : (v : Service) (offer seed : List ℕ) → eqb (length seed) 16 ≡ true
+      → ltb 255 (length (said_by v (act_req s.pid offer))) ≡ false → s.fit_of root offer ≡ true → eqb n last ≡ false
+      → turn s (fresh (bare root last n)) (frame (said_by v (act_req s.pid offer)) seed room)
+      ≡ stepped (agreeing v (s.secret_of root (n + 1) 2 seed offer)) conf.Nothing (n + 1) (said_by v (act_res (s.offer_of root seed)))
   reply_is Sse offer seed long short fit left = let pid = eq-eqb s.pid s.pid refl in rw (wide, long, short, pid, long, fit, left)
   reply_is Sch offer seed long short fit left = let pid = eq-eqb s.pid s.pid refl in rw (wide, long, short, pid, long, fit, left)
 
@@ -52,13 +59,13 @@ module _ (s : Scheme) (root : List ℕ) (last n room : ℕ) (wide : ltb room 255
       → ltb 255 (length (said_by v (act_res offer))) ≡ false → s.fit_of root offer ≡ true → eqb n last ≡ false
       → let value = s.secret_of root (n + 1) 1 seed offer in
       turn s (selecting (bare root last n) v seed) (frame (said_by v (act_res offer)) spare room)
-      ≡ stepped (sharing (agreed_suite root last (n + 1) value) EstablishedSender v Sender seed (n + 1)) conf.Nothing (n + 1) (said_by v (vfy_req (s.check_of root (n + 1) value 1)))
+      ≡ stepped (asking v seed value) conf.Nothing (n + 1) (said_by v (vfy_req (s.check_of root (n + 1) value 1)))
   check_is Sse offer seed spare long kept short fit left = let own = eq-eqb (n + 1) (n + 1) refl in rw (wide, long, short, kept, fit, left, own)
   check_is Sch offer seed spare long kept short fit left = let own = eq-eqb (n + 1) (n + 1) refl in rw (wide, long, short, kept, fit, left, own)
 
 -- with a shared secret, and the check values of the Sender and of the Recipient
-module _ (s : Scheme) (root : List ℕ) (last n room : ℕ) (wide : ltb room 255 ≡ false) (value spare : List ℕ) (long : eqb (length spare) 16 ≡ true)
-    (asked replied : List ℕ) (senders : s.check_of root n value 1 ≡ asked) (recipients : s.check_of root n value 2 ≡ replied) where
+module _ (s : Scheme) (root : List ℕ) (last n room : ℕ) (wide : ltb room 255 ≡ false)
+    (value spare : List ℕ) (long : eqb (length spare) 16 ≡ true) (asked replied : List ℕ) (senders : s.check_of root n value 1 ≡ asked) (recipients : s.check_of root n value 2 ≡ replied) where
   -- before and after the confirmation
   abbrev before : State → Service → Role → List ℕ → Model
   before state v role seed = sharing (agreed_suite root last n value) state v role seed n
@@ -102,7 +109,8 @@ module _ (s : Scheme) (root : List ℕ) (last n room : ℕ) (wide : ltb room 255
 
 -- RETRIEVE_SECRET
 pub tell_is : (s : Scheme) (root : List ℕ) (last n : ℕ) (role : Role) (seed value : List ℕ) (room : ℕ) → ltb room 16 ≡ false
-    → let m = sharing (agreed_suite root last n value) ConfirmedSse Sse role seed n in turn s m (retrieve_secret room) ≡ stepped m conf.Nothing 0 value
+    → let m = sharing (agreed_suite root last n value) ConfirmedSse Sse role seed n in
+    turn s m (retrieve_secret room) ≡ stepped m conf.Nothing 0 value
 tell_is s root last n role seed value room wide = let self = eq-eqb n n refl in rw (wide, self)
 
 -- Records.
@@ -111,56 +119,53 @@ pub role_ok : (r : Role) → ok_role (role_byte r) ≡ true
 role_ok Sender = refl
 role_ok Recipient = refl
 
-opposite_differs : (r : Role) → eqb (role_byte r) (role_byte (opposite r)) ≡ false
-opposite_differs Sender = refl
-opposite_differs Recipient = refl
+module _ (s : Scheme) (law : Lawful s) (m : Model) (room : ℕ) (enough : 255 ≤ room) (plain : List ℕ) (fit : Fit plain) where
+  roomy : ltb room 255 ≡ false
+  roomy = le-ltb room 255 enough
 
-full : (plain : List ℕ) → 0 < length plain → is_empty plain ≡ false
-full plain h = ne_eqb (length plain) 0 (λ e. omega arith)
+  filled : eqb (length plain) 0 ≡ false
+  filled = let some = fit.some in ne_eqb (length plain) 0 (λ e. omega arith)
 
-module _ (s : Scheme) (law : Lawful s) (means : Meaning) (role : Role) (seed : List ℕ) (number secret link room : ℕ) (value plain : List ℕ)
-    (enough : 255 ≤ room) (some : 0 < length plain) (most : length plain ≤ 200) where
+  not_long : ltb 200 (length plain) ≡ false
+  not_long = le-ltb 200 (length plain) fit.most
+
   -- SEND
-  pub send_is : (held : List ℕ) → value_in means.live LinkKey link ≡ Some value → number < s.final
-      → let payload = s.seal_of means.root link value (role_byte role) (number + 1) plain in
-      turn s (session means role seed number held secret link) (send plain room)
-      ≡ stepped (session means role seed (number + 1) held secret link) conf.DataSent 0 (said_by Sch (enc payload))
-  send_is held key below =
+  pub send_is : (value : List ℕ) → Confirmed Sch m → value_in m.means.live LinkKey m.link ≡ Some value → m.number < s.final
+      → let payload = s.seal_of m.means.root m.link value (role_byte m.role) (m.number + 1) plain in
+      turn s m (send plain room) ≡ stepped (record m { number = m.number + 1 }) conf.DataSent 0 (said_by Sch (enc payload))
+  send_is value c key below =
       let top = law.final_bound in
-      let wide : ltb room 255 ≡ false = le-ltb room 255 enough in
-      let filled : eqb (length plain) 0 ≡ false = full plain some in
-      let short : ltb 200 (length plain) ≡ false = le-ltb 200 (length plain) most in
-      let next : leb s.final number ≡ false = lt-leb s.final number below in
-      let ok : ok_role (role_byte role) ≡ true = role_ok role in
-      let low : ltb 16777215 (number + 1) ≡ false = le-ltb 16777215 (number + 1) (omega arith) in
-      rw (wide, filled, short, next, ok, low, key)
+      let state = c.state in
+      let next : leb s.final m.number ≡ false = lt-leb s.final m.number below in
+      let ok : ok_role (role_byte m.role) ≡ true = role_ok m.role in
+      let low : ltb 16777215 (m.number + 1) ≡ false = le-ltb 16777215 (m.number + 1) (omega arith) in
+      rw (roomy, state, filled, not_long, next, ok, low, key)
 
-  -- ENC, in the opposite role
-  pub hear_is : (payload spare : List ℕ) → length spare ≡ 16 → length payload ≤ 254 → value_in means.live LinkKey link ≡ Some value
-      → number < s.final → s.open_of means.root link value payload ≡ Some (role_byte role, number + 1, plain)
-      → turn s (session means (opposite role) seed number [] secret link) (frame (said_by Sch (enc payload)) spare room)
-      ≡ stepped (session means (opposite role) seed (number + 1) plain secret link) conf.DataAvailable 0 []
-  hear_is payload spare long light key below opens =
-      let wide : ltb room 255 ≡ false = le-ltb room 255 enough in
-      let sixteen : eqb (length spare) 16 ≡ true = eq-eqb (length spare) 16 long in
+  -- ENC of the other role
+  pub hear_is : (value payload spare : List ℕ) (role : ℕ) → InLink value m → m.number < s.final → length payload ≤ 254 → Bytes16 spare
+      → eqb role (role_byte m.role) ≡ false → s.open_of m.means.root m.link value payload ≡ Some (role, m.number + 1, plain)
+      → turn s m (frame (said_by Sch (enc payload)) spare room)
+      ≡ stepped (record m { number = m.number + 1; held = plain }) conf.DataAvailable 0 []
+  hear_is value payload spare role c below light h differs opens =
+      let state = c.confirmed.state in
+      let service = c.confirmed.service in
+      let none = c.none_held in
+      let key = c.key in
+      let sixteen : eqb (length spare) 16 ≡ true = eq-eqb (length spare) 16 h.long in
       let short : ltb 255 (length (said_by Sch (enc payload))) ≡ false = le-ltb 255 (length (said_by Sch (enc payload))) (omega arith) in
-      let payload_short : ltb 254 (length payload) ≡ false = le-ltb 254 (length payload) light in
-      let filled : eqb (length plain) 0 ≡ false = full plain some in
-      let plain_short : ltb 200 (length plain) ≡ false = le-ltb 200 (length plain) most in
-      let other : eqb (number + 1) number ≡ false = ne_eqb (number + 1) number (λ e. omega arith) in
-      let self : eqb (number + 1) (number + 1) ≡ true = eq-eqb (number + 1) (number + 1) refl in
-      let low : ltb s.final (number + 1) ≡ false = le-ltb s.final (number + 1) (omega arith) in
-      let differs : eqb (role_byte role) (role_byte (opposite role)) ≡ false = opposite_differs role in
-      rw (wide, sixteen, short, payload_short, key, opens, filled, plain_short, other, differs, self, low)
+      let fits : ltb 254 (length payload) ≡ false = le-ltb 254 (length payload) light in
+      let other : eqb (m.number + 1) m.number ≡ false = ne_eqb (m.number + 1) m.number (λ e. omega arith) in
+      let self : eqb (m.number + 1) (m.number + 1) ≡ true = eq-eqb (m.number + 1) (m.number + 1) refl in
+      let low : ltb s.final (m.number + 1) ≡ false = le-ltb s.final (m.number + 1) (omega arith) in
+      rw (roomy, sixteen, short, none, state, service, fits, key, opens, filled, not_long, other, differs, self, low)
 
   -- RETRIEVE_DATA
-  pub data_is : (own : Role)
-      → turn s (session means own seed number plain secret link) (retrieve_data room)
-      ≡ stepped (session means own seed number [] secret link) conf.Nothing 0 plain
-  data_is own =
-      let filled : eqb (length plain) 0 ≡ false = full plain some in
+  pub data_is : Confirmed Sch m → m.held ≡ plain → turn s m (retrieve_data room) ≡ stepped (record m { held = [] }) conf.Nothing 0 plain
+  data_is c held =
+      let most = fit.most in
+      let state = c.state in
       let fits : ltb room (length plain) ≡ false = le-ltb room (length plain) (omega arith) in
-      rw (filled, fits)
+      rw (state, held, filled, fits)
 
 -- The end.
 
