@@ -17,7 +17,7 @@ use Rattle.protocol.specs.Calls.{Call, invoke, frame, Turn, turn}
 use Rattle.histories.specs.Histories.{Entry, History, GivenBytes, entered, answers}
 use Rattle.exchanges.specs.Duos.{End, Duo, begun, last_written, Meeting, asks, replies, checks, verifies, completes, activated}
 use Rattle.exchanges.specs.Exchanges.{SerialFree, KindsSerialFree, NewIsFresh, Ready, opposite, InLink, Matched, Linked, LinkSucceeds, Shared, SecretSucceeds, IsRun, SomeReady}
-use Rattle.exchanges.proofs.Shapes.{bare, agreed_suite, linked_suite, Base, base_of, linked_in, one_gone, both_gone, selecting, sharing, session, Clears}
+use Rattle.exchanges.proofs.Shapes.{bare, Base, base_of, linked_in, one_gone, both_gone, selecting, sharing, linking, Clears}
 use Rattle.exchanges.proofs.Turns.{stepped, ask_is, reply_is, check_is, confirm_sse, confirm_sch, complete_sse, complete_sch, tell_is}
 use Rattle.exchanges.proofs.Records.{run_called}
 
@@ -85,8 +85,9 @@ module _ (s : Scheme) (law : Lawful s) (free : SerialFree s) (root : List ℕ) (
 
   value16 : Bytes16 value
   value16 =
-      law.secret_is root seed (s.offer_of root answering) (n + 1) 1 base.root_is seed_is (law.offer_bytes root answering base.root_is answering_is)
-      refl (law.fits root answering base.root_is answering_is)
+      let bytes = law.offer_bytes root answering base.root_is answering_is in
+      let fit = law.fits root answering base.root_is answering_is in
+      law.secret_is root seed (s.offer_of root answering) (n + 1) 1 base.root_is seed_is bytes refl fit
 
   agreed : s.secret_of root (n' + 1) 2 answering (s.offer_of root seed) ≡ value
   agreed = sym (law.agrees root seed answering (n + 1) (n' + 1) base.root_is seed_is answering_is)
@@ -120,10 +121,10 @@ module _ (s : Scheme) (law : Lawful s) (free : SerialFree s) (root : List ℕ) (
 
   -- the two with the shared secret, and in the link
   abbrev mine_sharing : State → Service → Model
-  mine_sharing state v = sharing (agreed_suite root last (n + 1) value) state v Sender seed (n + 1)
+  mine_sharing state v = sharing root last (n + 1) value state v Sender seed
 
   abbrev their_sharing : State → Service → Model
-  their_sharing state v = sharing (agreed_suite root last' (n' + 1) value) state v Recipient no_seed (n' + 1)
+  their_sharing state v = sharing root last' (n' + 1) value state v Recipient no_seed
 
   abbrev mine_link : List ℕ
   mine_link = s.link_of root (n + 1) value ((n + 1) + 1)
@@ -132,10 +133,10 @@ module _ (s : Scheme) (law : Lawful s) (free : SerialFree s) (root : List ℕ) (
   their_link = s.link_of root (n' + 1) value ((n' + 1) + 1)
 
   abbrev mine_linked : Model
-  mine_linked = session (linked_suite root last (n + 1) value mine_link) Sender seed s.first [] (n + 1) ((n + 1) + 1)
+  mine_linked = linking root last (n + 1) value mine_link Sender seed s.first
 
   abbrev their_linked : Model
-  their_linked = session (linked_suite root last' (n' + 1) value their_link) Recipient no_seed s.first [] (n' + 1) ((n' + 1) + 1)
+  their_linked = linking root last' (n' + 1) value their_link Recipient no_seed s.first
 
   -- the first three calls
 
@@ -162,7 +163,7 @@ module _ (s : Scheme) (law : Lawful s) (free : SerialFree s) (root : List ℕ) (
       let most = offer_most seed_is in
       let short = fits v (act_req s.pid (s.offer_of root seed)) (omega arith) in
       let fit = law.fits root seed base.root_is seed_is in
-      let made : List ℕ → Model = λ z. sharing (agreed_suite root last' (n' + 1) z) EstablishedRecipient v Recipient no_seed (n' + 1) in
+      let made : List ℕ → Model = λ z. sharing root last' (n' + 1) z EstablishedRecipient v Recipient no_seed in
       reply_is s root last' n' room wide v (s.offer_of root seed) answering (sixteen answering_is) short fit (left n' last' h)
       ∙ ap (λ z. stepped (made z) conf.Nothing (n' + 1) (said_act_res v)) agreed
 
@@ -332,12 +333,18 @@ pub new_fresh : NewIsFresh
 new_fresh means formed none = record { formed = formed; idle = refl; no_live = none; no_secret = refl; no_link = refl; none_held = refl }
 
 zeros_are : Bytes16 no_seed
-zeros_are = let z : 0 < 256 = lit< tt in record { long = refl; bytes = (z, (z, (z, (z, (z, (z, (z, (z, (z, (z, (z, (z, (z, (z, (z, (z, tt)))))))))))))))) }
+zeros_are =
+    let z : 0 < 256 = lit< tt in
+    record { long = refl; bytes = (z, (z, (z, (z, (z, (z, (z, (z, (z, (z, (z, (z, (z, (z, (z, (z, tt)))))))))))))))) }
+
+-- a suite that has made no key, and makes two
+abbrev two_left : Meaning
+two_left = bare no_seed 2 0
 
 pub some_ready : SomeReady
 some_ready =
-    let formed : WellFormed (bare no_seed 2 0) = record { root = zeros_are; last = lit< tt; newest = lit≤ tt; values = tt; serials = tt; apart = tt } in (
-      record { mine = bare no_seed 2 0; theirs = bare no_seed 2 0; seed = no_seed; answering = no_seed; spare = no_seed; room = 255 },
+    let formed : WellFormed two_left = record { root = zeros_are; last = lit< tt; newest = lit≤ tt; values = tt; serials = tt; apart = tt } in (
+      record { mine = two_left; theirs = two_left; seed = no_seed; answering = no_seed; spare = no_seed; room = 255 },
       record {
         mine_formed = formed;
         theirs_formed = formed;

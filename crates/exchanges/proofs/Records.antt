@@ -57,7 +57,8 @@ record Passed (number : ℕ) (d : Duo) (plain : List ℕ) (e : Duo) : Type 0 whe
   their_keys : SameKeys d.other.model e.other.model
 
 -- an entity in a link session, at another number with nothing held
-moved : {value : List ℕ} {m : Model} (number : ℕ) {held : List ℕ} → held ≡ [] → InLink value m → InLink value (record m { number = number; held = held })
+moved : {value : List ℕ} {m : Model} (number : ℕ) {held : List ℕ} → held ≡ [] → InLink value m
+    → InLink value (record m { number = number; held = held })
 moved number none i = record {
   formed = i.formed;
   confirmed = record { state = i.confirmed.state; service = i.confirmed.service };
@@ -96,7 +97,8 @@ module _ (s : Scheme) (law : Lawful s) (x : Meeting) (spare : Bytes16 x.spare) (
   short = let most = fit.most in let over = law.overhead_bound in omega (arith, size)
 
   sealed_bytes : Bytes payload
-  sealed_bytes = law.seal_bytes sender.means.root M.value plain sender.link role (sender.number + 1) M.mine.formed.root value16 (role_ok sender.role) can
+  sealed_bytes =
+      law.seal_bytes sender.means.root M.value plain sender.link role (sender.number + 1) M.mine.formed.root value16 (role_ok sender.role) can
 
   opened : s.open_of receiver.means.root receiver.link M.value payload ≡ Some (role, receiver.number + 1, plain)
   opened =

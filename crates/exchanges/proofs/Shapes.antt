@@ -16,9 +16,11 @@ use Rattle.protocol.specs.Models.{Model, fresh, idle, without_key}
 
 -- Suites.
 
+-- without a key
 abbrev pub bare : List ℕ → ℕ → ℕ → Meaning
 bare root last newest = record { root = root; last = last; newest = newest; live = [] }
 
+-- the key of a shared secret, and of a link
 abbrev pub secret_key : ℕ → List ℕ → Key
 secret_key serial value = record { serial = serial; kind = SharedSecret; value = value }
 
@@ -44,9 +46,11 @@ pub record Base (root : List ℕ) (last newest : ℕ) : Type 0 where
   pub below : newest ≤ last
   pub word : last < 2 ^ 32
 
+-- a well-formed suite has it
 pub base_of : {means : Meaning} → WellFormed means → Base means.root means.last means.newest
 base_of f = record { root_is = f.root; below = f.newest; word = f.last }
 
+-- a suite with the two keys is well formed
 linked_formed : (root : List ℕ) (last serial : ℕ) (value link : List ℕ) → Base root last (serial + 1) → 0 < serial
     → Bytes16 value → Bytes16 link → WellFormed (linked_suite root last serial value link)
 linked_formed root last serial value link base some v l =
@@ -63,6 +67,8 @@ linked_formed root last serial value link base some v l =
       serials = ((low, below), ((next, self), tt));
       apart = (or_from (eqb (serial + 1) serial) false differ refl, (refl, tt));
     }
+
+-- a value that is found first, or further on, has sixteen bytes
 
 same_value : {x y : List ℕ} → ◌≡◌ {A = Option (List ℕ)} (Some x) (Some y) → x ≡ y
 same_value e = cc
@@ -112,32 +118,36 @@ both_gone root last serial value link some =
 abbrev pub selecting : Meaning → Service → List ℕ → Model
 selecting means service seed = record (fresh means) { state = Select; service = service; role = Sender; seed = seed }
 
--- with a shared secret
-abbrev pub sharing : Meaning → State → Service → Role → List ℕ → ℕ → Model
-sharing means state service role seed secret = record (fresh means) { state = state; service = service; role = role; seed = seed; secret = secret }
+-- with a shared secret under this serial
+abbrev pub sharing : List ℕ → ℕ → ℕ → List ℕ → State → Service → Role → List ℕ → Model
+sharing root last serial value state service role seed = record (fresh (agreed_suite root last serial value)) {
+  state = state;
+  service = service;
+  role = role;
+  seed = seed;
+  secret = serial;
+}
 
--- in a link session
-abbrev pub session : Meaning → Role → List ℕ → ℕ → List ℕ → ℕ → ℕ → Model
-session means role seed number held secret link = record {
-  means = means;
+-- in a link session, with the link key under the next serial
+abbrev pub linking : List ℕ → ℕ → ℕ → List ℕ → List ℕ → Role → List ℕ → ℕ → Model
+linking root last serial value link role seed number = record (fresh (linked_suite root last serial value link)) {
   state = ConfirmedSch;
   service = Sch;
   role = role;
   seed = seed;
   number = number;
-  held = held;
-  secret = secret;
-  link = link;
+  secret = serial;
+  link = serial + 1;
 }
 
 -- once Idle is entered no key is left
 abbrev pub Clears : Model → Type 0
 Clears m = (idle m).means.live ≡ []
 
--- an entity that has just been linked, or has sent and received, with nothing held
+-- so it is in a link session whose key has that value
 pub linked_in : (root : List ℕ) (last serial : ℕ) (value link : List ℕ) (role : Role) (seed : List ℕ) (number : ℕ)
     → Base root last (serial + 1) → 0 < serial → Bytes16 value → Bytes16 link
-    → InLink link (session (linked_suite root last serial value link) role seed number [] serial (serial + 1))
+    → InLink link (linking root last serial value link role seed number)
 linked_in root last serial value link role seed number base some v l = record {
   formed = linked_formed root last serial value link base some v l;
   confirmed = record { state = refl; service = refl };

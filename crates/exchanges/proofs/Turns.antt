@@ -21,16 +21,17 @@ use Rattle.protocol.specs.Models.{Model, fresh, no_seed}
 use Rattle.protocol.specs.Steps.{said_by}
 use Rattle.protocol.specs.Calls.{Turn, invoke, send, retrieve_data, retrieve_secret, terminate, frame, turn, ended}
 use Rattle.exchanges.specs.Exchanges.{Confirmed, InLink, Fit}
-use Rattle.exchanges.proofs.Shapes.{bare, agreed_suite, linked_suite, selecting, sharing, session}
+use Rattle.exchanges.proofs.Shapes.{bare, selecting, sharing, linking}
 
 -- a call that meets no fault and destroys no key
 abbrev pub stepped : Model → Confirmation → ℕ → List ℕ → Turn
 stepped m confirmation made reply = record { model = m; answer = Ok (quiet confirmation (length reply) made); reply = reply }
 
+-- bytes are equal to themselves
 same_bytes : (p : List ℕ) → bytes_eq p p ≡ true
 same_bytes p = (bytes_eq-Decides p p).1 refl
 
--- Activations.
+-- Activations. The facts of each call: room for the reply, lengths, an offer that is fit, and a serial that is left.
 
 module _ (s : Scheme) (root : List ℕ) (last n room : ℕ) (wide : ltb room 255 ≡ false) where
   -- INVOKE
@@ -41,10 +42,10 @@ module _ (s : Scheme) (root : List ℕ) (last n room : ℕ) (wide : ltb room 255
 
   -- the two once they have a shared secret of this value
   abbrev agreeing : Service → List ℕ → Model
-  agreeing v value = sharing (agreed_suite root last (n + 1) value) EstablishedRecipient v Recipient no_seed (n + 1)
+  agreeing v value = sharing root last (n + 1) value EstablishedRecipient v Recipient no_seed
 
   abbrev asking : Service → List ℕ → List ℕ → Model
-  asking v seed value = sharing (agreed_suite root last (n + 1) value) EstablishedSender v Sender seed (n + 1)
+  asking v seed value = sharing root last (n + 1) value EstablishedSender v Sender seed
 
   -- ACT_REQ
   pub reply_is : (v : Service) (offer seed : List ℕ) → eqb (length seed) 16 ≡ true
@@ -65,13 +66,14 @@ module _ (s : Scheme) (root : List ℕ) (last n room : ℕ) (wide : ltb room 255
 
 -- with a shared secret, and the check values of the Sender and of the Recipient
 module _ (s : Scheme) (root : List ℕ) (last n room : ℕ) (wide : ltb room 255 ≡ false)
-    (value spare : List ℕ) (long : eqb (length spare) 16 ≡ true) (asked replied : List ℕ) (senders : s.check_of root n value 1 ≡ asked) (recipients : s.check_of root n value 2 ≡ replied) where
+    (value spare : List ℕ) (long : eqb (length spare) 16 ≡ true)
+    (asked replied : List ℕ) (senders : s.check_of root n value 1 ≡ asked) (recipients : s.check_of root n value 2 ≡ replied) where
   -- before and after the confirmation
   abbrev before : State → Service → Role → List ℕ → Model
-  before state v role seed = sharing (agreed_suite root last n value) state v role seed n
+  before state v role seed = sharing root last n value state v role seed
 
   abbrev linked : Role → List ℕ → Model
-  linked role seed = session (linked_suite root last n value (s.link_of root n value (n + 1))) role seed s.first [] n (n + 1)
+  linked role seed = linking root last n value (s.link_of root n value (n + 1)) role seed s.first
 
   -- VFY_REQ
   pub confirm_sse : ltb 255 (length (said_by Sse (vfy_req asked))) ≡ false
@@ -109,17 +111,19 @@ module _ (s : Scheme) (root : List ℕ) (last n room : ℕ) (wide : ltb room 255
 
 -- RETRIEVE_SECRET
 pub tell_is : (s : Scheme) (root : List ℕ) (last n : ℕ) (role : Role) (seed value : List ℕ) (room : ℕ) → ltb room 16 ≡ false
-    → let m = sharing (agreed_suite root last n value) ConfirmedSse Sse role seed n in
+    → let m = sharing root last n value ConfirmedSse Sse role seed in
     turn s m (retrieve_secret room) ≡ stepped m conf.Nothing 0 value
 tell_is s root last n role seed value room wide = let self = eq-eqb n n refl in rw (wide, self)
 
 -- Records.
 
+-- a role's byte is a role
 pub role_ok : (r : Role) → ok_role (role_byte r) ≡ true
 role_ok Sender = refl
 role_ok Recipient = refl
 
 module _ (s : Scheme) (law : Lawful s) (m : Model) (room : ℕ) (enough : 255 ≤ room) (plain : List ℕ) (fit : Fit plain) where
+  -- the facts that each call needs
   roomy : ltb room 255 ≡ false
   roomy = le-ltb room 255 enough
 
@@ -167,7 +171,7 @@ module _ (s : Scheme) (law : Lawful s) (m : Model) (room : ℕ) (enough : 255 �
       let fits : ltb room (length plain) ≡ false = le-ltb room (length plain) (omega arith) in
       rw (state, held, filled, fits)
 
--- The end.
+-- The end, for either service.
 
 module _ (s : Scheme) (m : Model) (room : ℕ) (enough : 255 ≤ room) where
   wide : ltb room 255 ≡ false

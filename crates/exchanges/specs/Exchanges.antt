@@ -103,7 +103,8 @@ pub record Shared (s : Scheme) (d : Duo) (room : ℕ) : Type 0 where
   pub same : (turn s d.other.model (retrieve_secret room)).reply ≡ (turn s d.one.model (retrieve_secret room)).reply
 
 abbrev pub SecretSucceeds : Type 0
-SecretSucceeds = (s : Scheme) → Lawful s → SerialFree s → (x : Meeting) → Ready Sse x → (room : ℕ) → 16 ≤ room → Shared s (activated s Sse x) room
+SecretSucceeds = (s : Scheme) → Lawful s → SerialFree s → (x : Meeting) → Ready Sse x →
+    (room : ℕ) → 16 ≤ room → Shared s (activated s Sse x) room
 
 -- Records.
 
