@@ -21,17 +21,20 @@ use Rattle.exchanges.proofs.Shapes.{bare, Base, base_of, linked_in, one_gone, bo
 use Rattle.exchanges.proofs.Turns.{stepped, ask_is, reply_is, check_is, confirm_sse, confirm_sch, complete_sse, complete_sch, tell_is}
 use Rattle.exchanges.proofs.Records.{run_called}
 
--- what is proved of an activation follows from what each of its five calls does
+-- An activation, by what each of its five calls does.
 module _ (s : Scheme) (v : Service) (x : Meeting) where
+  -- a frame passed on, and what it did
   abbrev heard : Turn → Turn → Entry
   heard from to = entered (frame from.reply x.spare x.room) to
 
+  -- the two after five such turns
   abbrev duo : Turn → Turn → Turn → Turn → Turn → Duo
   duo t1 t2 t3 t4 t5 = record {
     one = record { model = t5.model; past = heard t4 t5 ∷ heard t2 t3 ∷ entered (invoke v s.pid x.seed x.room) t1 ∷ [] };
     other = record { model = t4.model; past = heard t3 t4 ∷ entered (frame t1.reply x.answering x.room) t2 ∷ [] };
   }
 
+  -- what holds after five turns holds of the activation whose calls do these
   five : (Q : Duo → Type 0) (t1 t2 t3 t4 t5 : Turn)
       → turn s (fresh x.mine) (invoke v s.pid x.seed x.room) ≡ t1
       → turn s (fresh x.theirs) (frame t1.reply x.answering x.room) ≡ t2
@@ -83,12 +86,14 @@ module _ (s : Scheme) (law : Lawful s) (free : SerialFree s) (root : List ℕ) (
   abbrev replied : List ℕ
   replied = s.check_of root (n' + 1) value 2
 
+  -- the shared secret has sixteen bytes
   value16 : Bytes16 value
   value16 =
       let bytes = law.offer_bytes root answering base.root_is answering_is in
       let fit = law.fits root answering base.root_is answering_is in
       law.secret_is root seed (s.offer_of root answering) (n + 1) 1 base.root_is seed_is bytes refl fit
 
+  -- and both come to it, and to the same check values
   agreed : s.secret_of root (n' + 1) 2 answering (s.offer_of root seed) ≡ value
   agreed = sym (law.agrees root seed answering (n + 1) (n' + 1) base.root_is seed_is answering_is)
 
@@ -97,6 +102,8 @@ module _ (s : Scheme) (law : Lawful s) (free : SerialFree s) (root : List ℕ) (
 
   replied_alike : s.check_of root (n + 1) value 2 ≡ replied
   replied_alike = free.checks root value (n + 1) (n' + 1) 2
+
+  -- there is room, and nothing is too long
 
   wide : ltb room 255 ≡ false
   wide = le-ltb room 255 enough
@@ -116,6 +123,7 @@ module _ (s : Scheme) (law : Lawful s) (free : SerialFree s) (root : List ℕ) (
       let bound = law.check_bound in
       omega arith
 
+  -- a serial is left
   left : (k l : ℕ) → k < l → eqb k l ≡ false
   left k l h = ne_eqb k l (λ e. omega arith)
 
@@ -182,6 +190,7 @@ module _ (s : Scheme) (law : Lawful s) (free : SerialFree s) (root : List ℕ) (
 
   -- the last two for SCH
 
+  -- the two are matched
   linked : n + 2 ≤ last → n' + 2 ≤ last' → (d : Duo) → d.one.model ≡ mine_linked → d.other.model ≡ their_linked → Matched s.first d
   linked h h' d e e' =
       let some : 0 < n + 1 = omega arith in
@@ -217,6 +226,7 @@ module _ (s : Scheme) (law : Lawful s) (free : SerialFree s) (root : List ℕ) (
       let more = left (n + 1) last (omega arith) in
       complete_sch s root last (n + 1) room wide value spare (sixteen spare_is) asked replied refl replied_alike seed (replied_fits Sch) more
 
+  -- all five
   link_up : n + 2 ≤ last → n' + 2 ≤ last' → Started s (activated s Sch meeting)
   link_up h h' =
       let mine_offer = law.offer_bytes root seed base.root_is seed_is in
@@ -253,6 +263,7 @@ module _ (s : Scheme) (law : Lawful s) (free : SerialFree s) (root : List ℕ) (
   fifth_sse : turn s (mine_sharing EstablishedSender Sse) (frame (said_by Sse (vfy_res replied)) spare room) ≡ turn5_sse
   fifth_sse = complete_sse s root last (n + 1) room wide value spare (sixteen spare_is) asked replied refl replied_alike seed (replied_fits Sse)
 
+  -- all five
   share : n + 1 ≤ last → n' + 1 ≤ last' → (more : ℕ) → 16 ≤ more → Told s more (activated s Sse meeting)
   share h h' more big =
       let told = tell_is s root last (n + 1) Sender seed value more (le-ltb more 16 big) in
@@ -279,12 +290,15 @@ as_bare : (v : Service) (x : Meeting) → Ready v x
     → x ≡ record x { mine = bare x.mine.root x.mine.last x.mine.newest; theirs = bare x.mine.root x.theirs.last x.theirs.newest }
 as_bare v x r =
     let m : x.mine ≡ bare x.mine.root x.mine.last x.mine.newest = ap (λ z. record x.mine { live = z }) r.mine_none in
-    let t : x.theirs ≡ bare x.mine.root x.theirs.last x.theirs.newest =
-    ap (λ z. record x.theirs { live = z }) r.theirs_none ∙ ap (λ z. bare z x.theirs.last x.theirs.newest) r.roots in
+    let none : x.theirs ≡ bare x.theirs.root x.theirs.last x.theirs.newest = ap (λ z. record x.theirs { live = z }) r.theirs_none in
+    let t = none ∙ ap (λ z. bare z x.theirs.last x.theirs.newest) r.roots in
     ap (λ z. record x { mine = z }) m ∙ ap (λ z. record x { mine = bare x.mine.root x.mine.last x.mine.newest; theirs = z }) t
 
+-- the other's suite, with that root
 their_base : {v : Service} {x : Meeting} → Ready v x → Base x.mine.root x.theirs.last x.theirs.newest
 their_base r = record { root_is = r.mine_formed.root; below = r.theirs_formed.newest; word = r.theirs_formed.last }
+
+-- the activation of any two entities that are ready
 
 pub link_starts : (s : Scheme) → Lawful s → SerialFree s → (x : Meeting) → Ready Sch x → Started s (activated s Sch x)
 link_starts s law free x r =

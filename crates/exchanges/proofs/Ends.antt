@@ -19,6 +19,7 @@ use Rattle.exchanges.proofs.Activations.{Started, link_starts, secret_told, mine
 
 -- A talk after an activation.
 
+-- what it does
 talk_of_new : (s : Scheme) → Lawful s → (x : Meeting) → Ready Sch x → Started s (activated s Sch x) → (talk : List Line) → AllFit talk
     → s.first + length talk ≤ s.final → Goes s (s.first + length talk) (activated s Sch x) talk (talked s x (activated s Sch x) talk)
 talk_of_new s law x r start talk fit most =
@@ -69,9 +70,11 @@ module _ (s : Scheme) (x : Meeting) (spare : Bytes16 x.spare) (enough : 255 ≤ 
     other = record { model = b.model; past = entered (frame a.reply x.spare x.room) b ∷ d.other.past };
   }
 
+  -- both enter Idle
   ended_by : LeftIdle d (after_calls ends ends')
   ended_by = record { parted = record { mine = refl; theirs = refl; mine_idle = refl; theirs_idle = refl }; mine = refl; theirs = refl }
 
+  -- so it is with the calls themselves
   left_idle : LeftIdle d (parted s x d)
   left_idle =
       let hear : Turn → Turn = λ z. turn s d.other.model (frame z.reply x.spare x.room) in
@@ -81,12 +84,15 @@ module _ (s : Scheme) (x : Meeting) (spare : Bytes16 x.spare) (enough : 255 ≤ 
 pub parting_succeeds : PartingSucceeds
 parting_succeeds s x spare enough v d mine theirs = (left_idle s x spare enough v d mine theirs).parted
 
+-- with the same keys no key is left either
 clear_after : {m m' : Model} → SameKeys m m' → Clears m → Clears m'
 clear_after k h = rw (k.means, k.link, k.secret) h
 
+-- none is left of the two
 none_left : {d e : Duo} → LeftIdle d e → Clears d.one.model → Clears d.other.model → NoneLeft e
 none_left p mine theirs = (ap (λ z. z.means.live) p.mine ∙ mine, ap (λ z. z.means.live) p.theirs ∙ theirs)
 
+-- whichever terminates
 ends_well : (s : Scheme) (x : Meeting) → Bytes16 x.spare → 255 ≤ x.room → (v : Service) (d : Duo)
     → Confirmed v d.one.model → Confirmed v d.other.model → Clears d.one.model → Clears d.other.model → EndsWell s x d
 ends_well s x spare enough v d mine theirs mine_clear their_clear =

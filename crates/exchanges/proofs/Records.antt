@@ -24,6 +24,7 @@ pub record SameKeys (m m' : Model) : Type 0 where
   pub secret : m'.secret ≡ m.secret
   pub link : m'.link ≡ m.link
 
+-- one change after the other
 pub same_after : {m m' m'' : Model} → SameKeys m m' → SameKeys m' m'' → SameKeys m m''
 same_after a b = record { means = b.means ∙ a.means; secret = b.secret ∙ a.secret; link = b.link ∙ a.link }
 
@@ -40,6 +41,7 @@ run_called s means {e} c given r = record {
 
 -- One record.
 
+-- the history without its last call
 abbrev earlier : History → History
 earlier [] = []
 earlier (e ∷ h) = h
@@ -66,12 +68,15 @@ moved number none i = record {
   key = i.key;
 }
 
+-- the other role is another
 opposite_differs : (r : Role) → eqb (role_byte r) (role_byte (opposite r)) ≡ false
 opposite_differs Sender = refl
 opposite_differs Recipient = refl
 
 module _ (s : Scheme) (law : Lawful s) (x : Meeting) (spare : Bytes16 x.spare) (enough : 255 ≤ x.room) (number : ℕ) (d : Duo)
     (M : Matched number d) (plain : List ℕ) (fit : Fit plain) (low : s.first ≤ number) (below : number < s.final) where
+  -- the two, and what the one seals
+
   abbrev sender : Model
   sender = d.one.model
 
@@ -84,9 +89,11 @@ module _ (s : Scheme) (law : Lawful s) (x : Meeting) (spare : Bytes16 x.spare) (
   abbrev payload : List ℕ
   payload = s.seal_of sender.means.root sender.link M.value role (sender.number + 1) plain
 
+  -- the link key has sixteen bytes
   value16 : Bytes16 M.value
   value16 = value_is sender.means.live LinkKey sender.link M.value M.mine.formed.values M.mine.key
 
+  -- the record can be sealed; its payload is short, made of bytes, and opens to it
   can : Sealable s (sender.number + 1) plain
   can = let at = M.mine_at in record { some = fit.some; most = fit.most; bytes = fit.bytes; low = omega arith; high = omega arith }
 
@@ -166,6 +173,7 @@ module _ (s : Scheme) (law : Lawful s) (x : Meeting) (spare : Bytes16 x.spare) (
     their_keys = record { means = refl; secret = refl; link = refl };
   }
 
+  -- so it is with the calls themselves
   pass : Passed number d plain (passed s x d plain)
   pass =
       let hear : Turn → Turn = λ z. turn s receiver (frame z.reply x.spare x.room) in
@@ -185,6 +193,8 @@ pub record Goes (s : Scheme) (k : ℕ) (d : Duo) (talk : List Line) (e : Duo) : 
   pub their_keys : SameKeys d.other.model e.other.model
   pub mine_run : (means : Meaning) → IsRun s means d.one → IsRun s means e.one
   pub their_run : (means : Meaning) → IsRun s means d.other → IsRun s means e.other
+
+-- The other's records: the two change places.
 
 twice : (r : Role) → opposite (opposite r) ≡ r
 twice Sender = refl
@@ -215,6 +225,8 @@ turn_goes {k} plain {e} g = record {
   mine_run = g.their_run;
   their_run = g.mine_run;
 }
+
+-- One record and those that come later.
 
 after_both : (a : List (List ℕ)) {b c : List (List ℕ)} (xs ys : List (List ℕ)) → b ≡ a ++ xs → c ≡ b ++ ys → c ≡ a ++ (xs ++ ys)
 after_both a xs ys p q = q ∙ ap (λ z. z ++ ys) p ∙ append_assoc a xs ys
@@ -254,6 +266,7 @@ joined r later {d} g h = record {
   their_run = λ means r. h.their_run means (g.their_run means r);
 }
 
+-- no record
 none_said : (s : Scheme) (number : ℕ) (d : Duo) → Matched number d → Goes s number d [] d
 none_said s number d M = record {
   matched = M;
@@ -269,10 +282,12 @@ none_said s number d M = record {
   their_run = λ means r. r;
 }
 
+-- the same number in other words
 at_number : {s : Scheme} {n k : ℕ} {d e : Duo} {talk : List Line} → n ≡ k → Goes s n d talk e → Goes s k d talk e
 at_number {s} {d} {e} {talk} same g = subst (λ z. Goes s z d talk e) same g
 
 module _ (s : Scheme) (law : Lawful s) (x : Meeting) (spare : Bytes16 x.spare) (enough : 255 ≤ x.room) where
+  -- one record of the one
   line_goes : (number : ℕ) (d : Duo) (plain : List ℕ) → Matched number d → Fit plain → s.first ≤ number → number < s.final
       → Goes s (number + 1) d (here plain ∷ []) (passed s x d plain)
   line_goes number d plain M fit low below =
@@ -287,6 +302,7 @@ module _ (s : Scheme) (law : Lawful s) (x : Meeting) (spare : Bytes16 x.spare) (
         their_run = λ means r. run_called s means (retrieve_data x.room) tt (run_called s means heard (p.bytes, spare.bytes) r);
       }
 
+  -- any records, as far as the numbers reach
   pub talk_goes : (number : ℕ) (d : Duo) → s.first ≤ number → Matched number d → (talk : List Line) → AllFit talk
       → number + length talk ≤ s.final → Goes s (number + length talk) d talk (talked s x d talk)
   talk_goes number d low M [] fit most = at_number (omega arith) (none_said s number d M)
