@@ -24,6 +24,7 @@ pub record Duo : Type 0 where
 abbrev pub begun : Meaning → End
 begun means = record { model = fresh means; past = [] }
 
+-- one more call
 abbrev pub called : Scheme → End → Call → End
 called s e c = record { model = (turn s e.model c).model; past = entered c (turn s e.model c) ∷ e.past }
 
@@ -77,6 +78,7 @@ pub data Line : Type 0 where
   here : List ℕ → Line
   there : List ℕ → Line
 
+-- the two with their places changed
 abbrev pub turned : Duo → Duo
 turned d = record { one = d.other; other = d.one }
 

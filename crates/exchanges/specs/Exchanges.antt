@@ -51,10 +51,12 @@ pub record Ready (service : Service) (x : Meeting) : Type 0 where
   pub spare_is : Bytes16 x.spare
   pub enough : 255 ≤ x.room
 
+-- the other role
 abbrev pub opposite : Role → Role
 opposite Sender = Recipient
 opposite Recipient = Sender
 
+-- the state in which a service is in effect
 abbrev pub confirmed_state : Service → State
 confirmed_state Sse = ConfirmedSse
 confirmed_state Sch = ConfirmedSch
@@ -88,6 +90,7 @@ pub record Linked (s : Scheme) (d : Duo) : Type 0 where
   pub none_sent : (sent d.one.past ≡ []) × (sent d.other.past ≡ [])
   pub none_handed : (handed d.one.past ≡ []) × (handed d.other.past ≡ [])
 
+-- any two entities that are ready are linked
 abbrev pub LinkSucceeds : Type 0
 LinkSucceeds = (s : Scheme) → Lawful s → SerialFree s → (x : Meeting) → Ready Sch x → Linked s (activated s Sch x)
 
@@ -102,6 +105,7 @@ pub record Shared (s : Scheme) (d : Duo) (room : ℕ) : Type 0 where
   pub long : length (turn s d.one.model (retrieve_secret room)).reply ≡ 16
   pub same : (turn s d.other.model (retrieve_secret room)).reply ≡ (turn s d.one.model (retrieve_secret room)).reply
 
+-- or come to share a secret
 abbrev pub SecretSucceeds : Type 0
 SecretSucceeds = (s : Scheme) → Lawful s → SerialFree s → (x : Meeting) → Ready Sse x →
     (room : ℕ) → 16 ≤ room → Shared s (activated s Sse x) room
@@ -114,6 +118,7 @@ pub record Fit (plain : List ℕ) : Type 0 where
   pub most : length plain ≤ 200
   pub bytes : Bytes plain
 
+-- each line of a talk is the data of a record
 abbrev pub AllFit : List Line → Type 0
 AllFit [] = Unit {0}
 AllFit (here plain ∷ later) = Fit plain × AllFit later
@@ -127,6 +132,7 @@ pub record Arrives (s : Scheme) (x : Meeting) (number : ℕ) (d : Duo) (plain : 
   pub exactly : last_written (passed s x d plain).other.past ≡ plain
   pub matched : Matched (number + 1) (passed s x d plain)
 
+-- two matched sessions hand over one record
 abbrev pub RecordPasses : Type 0
 RecordPasses = (s : Scheme) → Lawful s → (x : Meeting) → Bytes16 x.spare → 255 ≤ x.room →
     (number : ℕ) (d : Duo) → s.first ≤ number → number < s.final → Matched number d → (plain : List ℕ) → Fit plain → Arrives s x number d plain
@@ -160,6 +166,7 @@ pub record AllArrives (s : Scheme) (x : Meeting) (d : Duo) (talk : List Line) : 
   pub mine_run : IsRun s x.mine d.one
   pub theirs_run : IsRun s x.theirs d.other
 
+-- so it is with any talk of two entities that were ready
 abbrev pub TalkSucceeds : Type 0
 TalkSucceeds = (s : Scheme) → Lawful s → SerialFree s → (x : Meeting) → Ready Sch x →
     (talk : List Line) → AllFit talk → s.first + length talk ≤ s.final → AllArrives s x (talked s x (activated s Sch x) talk) talk
@@ -178,6 +185,7 @@ abbrev pub PartingSucceeds : Type 0
 PartingSucceeds = (s : Scheme) (x : Meeting) → Bytes16 x.spare → 255 ≤ x.room →
     (service : Service) (d : Duo) → Confirmed service d.one.model → Confirmed service d.other.model → Parted (parted s x d)
 
+-- neither suite has a live key
 abbrev pub NoneLeft : Duo → Type 0
 NoneLeft d = (d.one.model.means.live ≡ []) × (d.other.model.means.live ≡ [])
 
@@ -193,6 +201,7 @@ abbrev pub LinkEnds : Type 0
 LinkEnds = (s : Scheme) → Lawful s → SerialFree s → (x : Meeting) → Ready Sch x →
     (talk : List Line) → AllFit talk → s.first + length talk ≤ s.final → EndsWell s x (talked s x (activated s Sch x) talk)
 
+-- and a shared secret
 abbrev pub SecretEnds : Type 0
 SecretEnds = (s : Scheme) → Lawful s → SerialFree s → (x : Meeting) → Ready Sse x → EndsWell s x (activated s Sse x)
 
