@@ -1,0 +1,140 @@
+-- Two entities over bench suites, call by call.
+use Rattle.std.specs.Prelude.{◌≡◌, ℕ, List, [], ◌∷◌, replicate, Some, None, Ok, Err, Option, Result}
+use Rattle.frame.specs.declared.types.Service.TheVariants.{Sch}
+use Rattle.frame.specs.declared.faults.FaultCode.{FaultCode}
+use Rattle.bench_suite.specs.Benches.{bench_scheme}
+use Rattle.protocol.specs.declared.refusals.Refusal.{Refusal}
+use Rattle.protocol.specs.declared.outcomes.Destroyed.{Destroyed}
+use Rattle.protocol.specs.declared.outcomes.Outcome.{Outcome}
+use Rattle.protocol.specs.declared.faults.Fault.{Fault}
+use Rattle.protocol.specs.Numbers.{state_mark, confirmation_number, refusal_number, cause_code}
+use Rattle.protocol.specs.Outcomes.{no_keys}
+use Rattle.protocol.specs.Models.{Model, fresh, no_seed}
+use Rattle.protocol.specs.Calls.{Turn, Call, invoke, send, retrieve_data, frame, turn}
+
+-- What an answer says.
+
+-- the number of a confirmation; 255 where the call is refused
+abbrev pub confirmation : Result Outcome Refusal → ℕ
+confirmation (Ok o) = confirmation_number o.confirmation
+confirmation (Err r) = 255
+
+-- the number of a refusal; 0 where the call is not refused
+abbrev pub refusal : Result Outcome Refusal → ℕ
+refusal (Ok o) = 0
+refusal (Err r) = refusal_number r
+
+-- a fault: its code, the number of the state that it is met in, and the code of the message
+abbrev pub told : Option Fault → Option (FaultCode × ℕ × ℕ)
+told None = None
+told (Some f) = Some (cause_code f.machine.cause, state_mark f.machine.state, f.message)
+
+abbrev pub fault : Result Outcome Refusal → Option (FaultCode × ℕ × ℕ)
+fault (Ok o) = told o.fault
+fault (Err r) = None
+
+-- the keys that it reports destroyed
+abbrev pub destroyed : Result Outcome Refusal → Destroyed
+destroyed (Ok o) = o.destroyed
+destroyed (Err r) = no_keys
+
+-- The two peers' seeds.
+
+abbrev pub ones : List ℕ
+ones = replicate 16 1
+
+abbrev pub twos : List ℕ
+twos = replicate 16 2
+
+-- a new entity whose root is zeros, over a suite that has made no key, and makes this many
+abbrev pub entity : ℕ → Model
+entity last = fresh (record { root = replicate 16 0; last = last; newest = 0; live = [] })
+
+abbrev pub new : Model
+new = entity 4294967295
+
+abbrev pub call : Model → Call → Turn
+call m c = turn bench_scheme m c
+
+-- a frame, with a seed of zeros
+abbrev pub hears : Model → List ℕ → Turn
+hears m bytes = call m (frame bytes no_seed 255)
+
+-- An activation for SCH, call by call: the Sender's and the Recipient's.
+
+abbrev pub act_req : Turn
+act_req = call new (invoke Sch 0xF0 ones 255)
+
+abbrev pub act_res : Turn
+act_res = call new (frame act_req.reply twos 255)
+
+abbrev pub vfy_req : Turn
+vfy_req = hears act_req.model act_res.reply
+
+abbrev pub vfy_res : Turn
+vfy_res = hears act_res.model vfy_req.reply
+
+abbrev pub linked : Turn
+linked = hears vfy_req.model vfy_res.reply
+
+-- Records: the Sender's first, the same frame before and after its data are retrieved, and the Recipient's answer.
+
+abbrev pub sent : Turn
+sent = call linked.model (send (0x41 ∷ 0x42 ∷ []) 255)
+
+abbrev pub received : Turn
+received = hears vfy_res.model sent.reply
+
+abbrev pub repeated : Turn
+repeated = hears received.model sent.reply
+
+abbrev pub retrieved : Turn
+retrieved = call received.model (retrieve_data 255)
+
+abbrev pub dropped : Turn
+dropped = hears retrieved.model sent.reply
+
+abbrev pub answered : Turn
+answered = call dropped.model (send (0x43 ∷ []) 255)
+
+-- a record sent where the newest has this number
+abbrev pub sent_at : ℕ → Turn
+sent_at number = call (record linked.model { number = number }) (send (0x41 ∷ []) 255)
+
+-- A Recipient whose suite makes one key, and so no link key.
+
+abbrev pub lone : Turn
+lone = call (entity 1) (frame act_req.reply twos 255)
+
+abbrev pub keyless : Turn
+keyless = hears lone.model vfy_req.reply
+
+pub record Cases : Type 0 where
+  -- the activation: what is written, and that both confirm it
+  pub act_req_bytes : act_req.reply ≡ 0x10 ∷ 0xF0 ∷ ones
+  pub act_res_bytes : act_res.reply ≡ 0x11 ∷ twos
+  pub vfy_req_bytes : vfy_req.reply ≡ 0x12 ∷ 0x01 ∷ 0x03 ∷ 0x03 ∷ 0x03 ∷ []
+  pub vfy_res_bytes : vfy_res.reply ≡ 0x13 ∷ 0x02 ∷ 0x03 ∷ 0x03 ∷ 0x03 ∷ []
+  pub recipient_linked : confirmation vfy_res.answer ≡ 1
+  pub sender_linked : confirmation linked.answer ≡ 1
+  -- a record: sent, and available
+  pub sent_bytes : sent.reply ≡ 0x14 ∷ 0x01 ∷ 0x00 ∷ 0x00 ∷ 0x00 ∷ 0x01 ∷ 0x18 ∷ 0x1B ∷ 0x35 ∷ []
+  pub sent_confirmed : confirmation sent.answer ≡ 2
+  pub received_confirmed : confirmation received.answer ≡ 3
+  -- the same frame is refused while the data are held, and dropped once they are retrieved
+  pub repeated_refused : refusal repeated.answer ≡ 4
+  pub retrieved_bytes : retrieved.reply ≡ 0x41 ∷ 0x42 ∷ []
+  pub dropped_confirmed : confirmation dropped.answer ≡ 6
+  -- the Recipient's record has the next number
+  pub answered_bytes : answered.reply ≡ 0x14 ∷ 0x02 ∷ 0x00 ∷ 0x00 ∷ 0x00 ∷ 0x02 ∷ 0x1A ∷ 0x1E ∷ []
+  -- in Idle: ENC is M1, in the frame's service; the service bits 10 are C2, in SSE; a TMN with payload is C4
+  pub early_reply : (hears new (0x14 ∷ [])).reply ≡ 0x1F ∷ 0x4D ∷ 0x31 ∷ 0x00 ∷ []
+  pub strange_reply : (hears new (0x20 ∷ [])).reply ≡ 0x0F ∷ 0x43 ∷ 0x32 ∷ 0x00 ∷ []
+  pub long_fault : fault (hears new (0x16 ∷ 0x00 ∷ [])).answer ≡ Some (record { letter = 0x43; digit = 0x34; place = 1 }, 0, 6)
+  -- the last number is 65535
+  pub last_sent : confirmation (sent_at 65534).answer ≡ 2
+  pub none_sent : refusal (sent_at 65535).answer ≡ 8
+  -- without a key for the link VFY_REQ is S3, met in Established_Recipient, and the shared secret goes
+  pub keyless_fault : fault keyless.answer ≡ Some (record { letter = 0x53; digit = 0x33; place = 1 }, 3, 2)
+  pub keyless_reply : keyless.reply ≡ 0x1F ∷ 0x53 ∷ 0x33 ∷ 0x00 ∷ []
+  pub keyless_destroyed : destroyed keyless.answer ≡ record { link = 0; secret = 1 }

@@ -1,0 +1,375 @@
+-- Two new entities whose frames are passed on unaltered confirm each other.
+use Rattle.std.proofs.Common.{◌≡◌, ℕ, ◌+◌, ◌<◌, ◌≤◌, true, false, eqb, ltb, List, [], ◌∷◌, length, sym, refl, ap, ◌∙◌, subst, arith, lit<, lit≤}
+use Rattle.std.specs.List.{AllByRecursion}
+use Rattle.std.proofs.lemmas.Bool.{le-ltb, eq-eqb, ne_eqb}
+use Rattle.frame.specs.declared.types.Service.{Service}
+use Rattle.frame.specs.declared.types.Service.TheVariants.{Sse, Sch}
+use Rattle.frame.specs.Frames.{Said, fields, act_req, act_res, vfy_req, vfy_res}
+use Rattle.suite.specs.declared.types.Role.TheVariants.{Sender, Recipient}
+use Rattle.suite.specs.Meanings.{Meaning, Bytes16, WellFormed}
+use Rattle.suite.specs.Schemes.{Scheme, Lawful, ok_role}
+use Rattle.protocol.specs.declared.states.State.{State}
+use Rattle.protocol.specs.declared.states.State.TheVariants.{EstablishedSender, EstablishedRecipient, ConfirmedSse}
+use Rattle.protocol.specs.declared.outcomes.Confirmation.TheVariants as conf
+use Rattle.protocol.specs.Models.{Model, fresh, no_seed}
+use Rattle.protocol.specs.Steps.{said_by}
+use Rattle.protocol.specs.Calls.{Call, invoke, frame, Turn, turn}
+use Rattle.histories.specs.Histories.{Entry, History, GivenBytes, entered, answers}
+use Rattle.exchanges.specs.Duos.{End, Duo, begun, last_written, Meeting, asks, replies, checks, verifies, completes, activated}
+use Rattle.exchanges.specs.Exchanges.{SerialFree, KindsSerialFree, NewIsFresh, Ready, opposite, InLink, Matched, Linked, LinkSucceeds, Shared, SecretSucceeds, IsRun, SomeReady}
+use Rattle.exchanges.proofs.Shapes.{bare, Base, base_of, linked_in, one_gone, both_gone, selecting, sharing, linking, Clears}
+use Rattle.exchanges.proofs.Turns.{stepped, ask_is, reply_is, check_is, confirm_sse, confirm_sch, complete_sse, complete_sch, tell_is}
+use Rattle.exchanges.proofs.Records.{run_called}
+
+-- An activation, by what each of its five calls does.
+module _ (s : Scheme) (v : Service) (x : Meeting) where
+  -- a frame passed on, and what it did
+  abbrev heard : Turn → Turn → Entry
+  heard from to = entered (frame from.reply x.spare x.room) to
+
+  -- the two after five such turns
+  abbrev duo : Turn → Turn → Turn → Turn → Turn → Duo
+  duo t1 t2 t3 t4 t5 = record {
+    one = record { model = t5.model; past = heard t4 t5 ∷ heard t2 t3 ∷ entered (invoke v s.pid x.seed x.room) t1 ∷ [] };
+    other = record { model = t4.model; past = heard t3 t4 ∷ entered (frame t1.reply x.answering x.room) t2 ∷ [] };
+  }
+
+  -- what holds after five turns holds of the activation whose calls do these
+  five : (Q : Duo → Type 0) (t1 t2 t3 t4 t5 : Turn)
+      → turn s (fresh x.mine) (invoke v s.pid x.seed x.room) ≡ t1
+      → turn s (fresh x.theirs) (frame t1.reply x.answering x.room) ≡ t2
+      → turn s t1.model (frame t2.reply x.spare x.room) ≡ t3
+      → turn s t2.model (frame t3.reply x.spare x.room) ≡ t4
+      → turn s t3.model (frame t4.reply x.spare x.room) ≡ t5
+      → Q (duo t1 t2 t3 t4 t5) → Q (activated s v x)
+  five Q t1 t2 t3 t4 t5 e1 e2 e3 e4 e5 end =
+      let h2 : Turn → Turn = λ a. turn s (fresh x.theirs) (frame a.reply x.answering x.room) in
+      let h : Turn → Turn → Turn = λ a b. turn s a.model (frame b.reply x.spare x.room) in
+      subst (λ a. let b = h2 a in let c = h a b in let d = h b c in Q (duo a b c d (h c d))) (sym e1)
+      (subst (λ b. let c = h t1 b in let d = h b c in Q (duo t1 b c d (h c d))) (sym e2)
+      (subst (λ c. let d = h t2 c in Q (duo t1 t2 c d (h c d))) (sym e3)
+      (subst (λ d. Q (duo t1 t2 t3 d (h t3 d))) (sym e4)
+      (subst (λ e. Q (duo t1 t2 t3 t4 e)) (sym e5) end))))
+
+-- the calls of a history were given bytes
+abbrev Given : History → Type 0
+Given h = AllByRecursion (λ e. GivenBytes e.call) h
+
+-- two entities at the start of a link
+pub record Started (s : Scheme) (d : Duo) : Type 0 where
+  pub linked : Linked s d
+  pub mine_given : Given d.one.past
+  pub their_given : Given d.other.past
+  pub mine_clear : Clears d.one.model
+  pub their_clear : Clears d.other.model
+
+-- and where both have the shared secret that they retrieve
+pub record Told (s : Scheme) (room : ℕ) (d : Duo) : Type 0 where
+  pub shared : Shared s d room
+  pub mine_clear : Clears d.one.model
+  pub their_clear : Clears d.other.model
+
+-- between two suites with one root and no key
+module _ (s : Scheme) (law : Lawful s) (free : SerialFree s) (root : List ℕ) (last last' n n' room : ℕ) (seed answering spare : List ℕ)
+    (seed_is : Bytes16 seed) (answering_is : Bytes16 answering) (spare_is : Bytes16 spare) (enough : 255 ≤ room)
+    (base : Base root last n) (base' : Base root last' n') where
+  abbrev meeting : Meeting
+  meeting = record { mine = bare root last n; theirs = bare root last' n'; seed = seed; answering = answering; spare = spare; room = room }
+
+  -- the shared secret, and the check values that the Sender and the Recipient write
+  abbrev value : List ℕ
+  value = s.secret_of root (n + 1) 1 seed (s.offer_of root answering)
+
+  abbrev asked : List ℕ
+  asked = s.check_of root (n + 1) value 1
+
+  abbrev replied : List ℕ
+  replied = s.check_of root (n' + 1) value 2
+
+  -- the shared secret has sixteen bytes
+  value16 : Bytes16 value
+  value16 =
+      let bytes = law.offer_bytes root answering base.root_is answering_is in
+      let fit = law.fits root answering base.root_is answering_is in
+      law.secret_is root seed (s.offer_of root answering) (n + 1) 1 base.root_is seed_is bytes refl fit
+
+  -- and both come to it, and to the same check values
+  agreed : s.secret_of root (n' + 1) 2 answering (s.offer_of root seed) ≡ value
+  agreed = sym (law.agrees root seed answering (n + 1) (n' + 1) base.root_is seed_is answering_is)
+
+  asked_alike : s.check_of root (n' + 1) value 1 ≡ asked
+  asked_alike = free.checks root value (n' + 1) (n + 1) 1
+
+  replied_alike : s.check_of root (n + 1) value 2 ≡ replied
+  replied_alike = free.checks root value (n + 1) (n' + 1) 2
+
+  -- there is room, and nothing is too long
+
+  wide : ltb room 255 ≡ false
+  wide = le-ltb room 255 enough
+
+  sixteen : {xs : List ℕ} → Bytes16 xs → eqb (length xs) 16 ≡ true
+  sixteen {xs} h = eq-eqb (length xs) 16 h.long
+
+  fits : (v : Service) (said : Said) → length (fields said) ≤ 65 → ltb 255 (length (said_by v said)) ≡ false
+  fits v said h = le-ltb 255 (length (said_by v said)) (omega arith)
+
+  offer_most : {own : List ℕ} → Bytes16 own → length (s.offer_of root own) ≤ 64
+  offer_most {own} h = let long = law.offer_long root own base.root_is h in let bound = law.offer_bound in omega arith
+
+  check_most : (serial role : ℕ) → ok_role role ≡ true → length (s.check_of root serial value role) ≤ 65
+  check_most serial role ok =
+      let long = law.check_long root value serial role base.root_is value16 ok in
+      let bound = law.check_bound in
+      omega arith
+
+  -- a serial is left
+  left : (k l : ℕ) → k < l → eqb k l ≡ false
+  left k l h = ne_eqb k l (λ e. omega arith)
+
+  -- the two with the shared secret, and in the link
+  abbrev mine_sharing : State → Service → Model
+  mine_sharing state v = sharing root last (n + 1) value state v Sender seed
+
+  abbrev their_sharing : State → Service → Model
+  their_sharing state v = sharing root last' (n' + 1) value state v Recipient no_seed
+
+  abbrev mine_link : List ℕ
+  mine_link = s.link_of root (n + 1) value ((n + 1) + 1)
+
+  abbrev their_link : List ℕ
+  their_link = s.link_of root (n' + 1) value ((n' + 1) + 1)
+
+  abbrev mine_linked : Model
+  mine_linked = linking root last (n + 1) value mine_link Sender seed s.first
+
+  abbrev their_linked : Model
+  their_linked = linking root last' (n' + 1) value their_link Recipient no_seed s.first
+
+  -- the first three calls
+
+  abbrev said_act_req : Service → List ℕ
+  said_act_req v = said_by v (act_req s.pid (s.offer_of root seed))
+
+  abbrev said_act_res : Service → List ℕ
+  said_act_res v = said_by v (act_res (s.offer_of root answering))
+
+  abbrev turn1 : Service → Turn
+  turn1 v = stepped (selecting (bare root last n) v seed) conf.Nothing 0 (said_act_req v)
+
+  abbrev turn2 : Service → Turn
+  turn2 v = stepped (their_sharing EstablishedRecipient v) conf.Nothing (n' + 1) (said_act_res v)
+
+  abbrev turn3 : Service → Turn
+  turn3 v = stepped (mine_sharing EstablishedSender v) conf.Nothing (n + 1) (said_by v (vfy_req asked))
+
+  first : (v : Service) → turn s (fresh (bare root last n)) (invoke v s.pid seed room) ≡ turn1 v
+  first v = ask_is s root last n room wide v seed (sixteen seed_is)
+
+  second : (v : Service) → n' < last' → turn s (fresh (bare root last' n')) (frame (said_act_req v) answering room) ≡ turn2 v
+  second v h =
+      let most = offer_most seed_is in
+      let short = fits v (act_req s.pid (s.offer_of root seed)) (omega arith) in
+      let fit = law.fits root seed base.root_is seed_is in
+      let made : List ℕ → Model = λ z. sharing root last' (n' + 1) z EstablishedRecipient v Recipient no_seed in
+      reply_is s root last' n' room wide v (s.offer_of root seed) answering (sixteen answering_is) short fit (left n' last' h)
+      ∙ ap (λ z. stepped (made z) conf.Nothing (n' + 1) (said_act_res v)) agreed
+
+  third : (v : Service) → n < last → turn s (selecting (bare root last n) v seed) (frame (said_act_res v) spare room) ≡ turn3 v
+  third v h =
+      let most = offer_most answering_is in
+      let short = fits v (act_res (s.offer_of root answering)) (omega arith) in
+      let fit = law.fits root answering base.root_is answering_is in
+      check_is s root last n room wide v (s.offer_of root answering) seed spare (sixteen spare_is) (sixteen seed_is) short fit (left n last h)
+
+  asked_fits : (v : Service) → ltb 255 (length (said_by v (vfy_req asked))) ≡ false
+  asked_fits v = fits v (vfy_req asked) (check_most (n + 1) 1 refl)
+
+  replied_fits : (v : Service) → ltb 255 (length (said_by v (vfy_res replied))) ≡ false
+  replied_fits v = fits v (vfy_res replied) (check_most (n' + 1) 2 refl)
+
+  -- the last two for SCH
+
+  -- the two are matched
+  linked : n + 2 ≤ last → n' + 2 ≤ last' → (d : Duo) → d.one.model ≡ mine_linked → d.other.model ≡ their_linked → Matched s.first d
+  linked h h' d e e' =
+      let some : 0 < n + 1 = omega arith in
+      let some' : 0 < n' + 1 = omega arith in
+      let full : Base root last ((n + 1) + 1) = record { root_is = base.root_is; below = omega arith; word = base.word } in
+      let full' : Base root last' ((n' + 1) + 1) = record { root_is = base.root_is; below = omega arith; word = base'.word } in
+      let mine16 = law.link_is root value (n + 1) ((n + 1) + 1) base.root_is value16 in
+      let their16 = law.link_is root value (n' + 1) ((n' + 1) + 1) base.root_is value16 in
+      let alike : their_link ≡ mine_link = free.links root value (n' + 1) (n + 1) ((n' + 1) + 1) ((n + 1) + 1) in
+      let theirs = linked_in root last' (n' + 1) value their_link Recipient no_seed s.first full' some' value16 their16 in
+      record {
+        value = mine_link;
+        mine = subst (InLink mine_link) (sym e) (linked_in root last (n + 1) value mine_link Sender seed s.first full some value16 mine16);
+        theirs = subst (InLink mine_link) (sym e') (subst (λ z. InLink z their_linked) alike theirs);
+        roles = ap (λ z. z.role) e' ∙ sym (ap (λ z. opposite z.role) e);
+        mine_at = ap (λ z. z.number) e;
+        theirs_at = ap (λ z. z.number) e';
+      }
+
+  abbrev turn4_sch : Turn
+  turn4_sch = stepped their_linked conf.Established ((n' + 1) + 1) (said_by Sch (vfy_res replied))
+
+  abbrev turn5_sch : Turn
+  turn5_sch = stepped mine_linked conf.Established ((n + 1) + 1) []
+
+  fourth_sch : n' + 2 ≤ last' → turn s (their_sharing EstablishedRecipient Sch) (frame (said_by Sch (vfy_req asked)) spare room) ≡ turn4_sch
+  fourth_sch h' =
+      let more = left (n' + 1) last' (omega arith) in
+      confirm_sch s root last' (n' + 1) room wide value spare (sixteen spare_is) asked replied asked_alike refl (asked_fits Sch) more
+
+  fifth_sch : n + 2 ≤ last → turn s (mine_sharing EstablishedSender Sch) (frame (said_by Sch (vfy_res replied)) spare room) ≡ turn5_sch
+  fifth_sch h =
+      let more = left (n + 1) last (omega arith) in
+      complete_sch s root last (n + 1) room wide value spare (sixteen spare_is) asked replied refl replied_alike seed (replied_fits Sch) more
+
+  -- all five
+  link_up : n + 2 ≤ last → n' + 2 ≤ last' → Started s (activated s Sch meeting)
+  link_up h h' =
+      let mine_offer = law.offer_bytes root seed base.root_is seed_is in
+      let their_offer = law.offer_bytes root answering base.root_is answering_is in
+      let asked_bytes = law.check_bytes root value (n + 1) 1 base.root_is value16 refl in
+      let replied_bytes = law.check_bytes root value (n' + 1) 2 base.root_is value16 refl in
+      five s Sch meeting (Started s) (turn1 Sch) (turn2 Sch) (turn3 Sch) turn4_sch turn5_sch
+      (first Sch) (second Sch (omega arith)) (third Sch (omega arith)) (fourth_sch h') (fifth_sch h)
+      (record {
+        linked = record {
+          mine = refl;
+          theirs = refl;
+          matched = linked h h' _ refl refl;
+          none_sent = (refl, refl);
+          none_handed = (refl, refl);
+        };
+        mine_given = (((lit< tt, replied_bytes), spare_is.bytes), (((lit< tt, their_offer), spare_is.bytes), (seed_is.bytes, tt)));
+        their_given = (((lit< tt, asked_bytes), spare_is.bytes), (((lit< tt, (law.pid_byte, mine_offer)), answering_is.bytes), tt));
+        mine_clear = both_gone root last (n + 1) value mine_link (omega arith);
+        their_clear = both_gone root last' (n' + 1) value their_link (omega arith);
+      })
+
+  -- and for SSE
+
+  abbrev turn4_sse : Turn
+  turn4_sse = stepped (their_sharing ConfirmedSse Sse) conf.Established 0 (said_by Sse (vfy_res replied))
+
+  abbrev turn5_sse : Turn
+  turn5_sse = stepped (mine_sharing ConfirmedSse Sse) conf.Established 0 []
+
+  fourth_sse : turn s (their_sharing EstablishedRecipient Sse) (frame (said_by Sse (vfy_req asked)) spare room) ≡ turn4_sse
+  fourth_sse = confirm_sse s root last' (n' + 1) room wide value spare (sixteen spare_is) asked replied asked_alike refl (asked_fits Sse)
+
+  fifth_sse : turn s (mine_sharing EstablishedSender Sse) (frame (said_by Sse (vfy_res replied)) spare room) ≡ turn5_sse
+  fifth_sse = complete_sse s root last (n + 1) room wide value spare (sixteen spare_is) asked replied refl replied_alike seed (replied_fits Sse)
+
+  -- all five
+  share : n + 1 ≤ last → n' + 1 ≤ last' → (more : ℕ) → 16 ≤ more → Told s more (activated s Sse meeting)
+  share h h' more big =
+      let told = tell_is s root last (n + 1) Sender seed value more (le-ltb more 16 big) in
+      let told' = tell_is s root last' (n' + 1) Recipient no_seed value more (le-ltb more 16 big) in
+      five s Sse meeting (Told s more) (turn1 Sse) (turn2 Sse) (turn3 Sse) turn4_sse turn5_sse
+      (first Sse) (second Sse (omega arith)) (third Sse (omega arith)) fourth_sse fifth_sse
+      (record {
+        shared = record {
+          mine = refl;
+          theirs = refl;
+          mine_in = record { state = refl; service = refl };
+          theirs_in = record { state = refl; service = refl };
+          mine_told = ap (λ t. answers t.answer) told;
+          theirs_told = ap (λ t. answers t.answer) told';
+          long = ap (λ t. length t.reply) told ∙ value16.long;
+          same = ap (λ t. t.reply) told' ∙ sym (ap (λ t. t.reply) told);
+        };
+        mine_clear = one_gone root last (n + 1) value (omega arith);
+        their_clear = one_gone root last' (n' + 1) value (omega arith);
+      })
+
+-- any two suites with one root and no key
+as_bare : (v : Service) (x : Meeting) → Ready v x
+    → x ≡ record x { mine = bare x.mine.root x.mine.last x.mine.newest; theirs = bare x.mine.root x.theirs.last x.theirs.newest }
+as_bare v x r =
+    let m : x.mine ≡ bare x.mine.root x.mine.last x.mine.newest = ap (λ z. record x.mine { live = z }) r.mine_none in
+    let none : x.theirs ≡ bare x.theirs.root x.theirs.last x.theirs.newest = ap (λ z. record x.theirs { live = z }) r.theirs_none in
+    let t = none ∙ ap (λ z. bare z x.theirs.last x.theirs.newest) r.roots in
+    ap (λ z. record x { mine = z }) m ∙ ap (λ z. record x { mine = bare x.mine.root x.mine.last x.mine.newest; theirs = z }) t
+
+-- the other's suite, with that root
+their_base : {v : Service} {x : Meeting} → Ready v x → Base x.mine.root x.theirs.last x.theirs.newest
+their_base r = record { root_is = r.mine_formed.root; below = r.theirs_formed.newest; word = r.theirs_formed.last }
+
+-- the activation of any two entities that are ready
+
+pub link_starts : (s : Scheme) → Lawful s → SerialFree s → (x : Meeting) → Ready Sch x → Started s (activated s Sch x)
+link_starts s law free x r =
+    subst (λ z. Started s (activated s Sch z)) (sym (as_bare Sch x r))
+    (link_up s law free x.mine.root x.mine.last x.theirs.last x.mine.newest x.theirs.newest x.room x.seed x.answering x.spare
+    r.seed_is r.answering_is r.spare_is r.enough (base_of r.mine_formed) (their_base r) r.mine_left r.theirs_left)
+
+pub link_succeeds : LinkSucceeds
+link_succeeds s law free x r = (link_starts s law free x r).linked
+
+pub secret_told : (s : Scheme) → Lawful s → SerialFree s → (x : Meeting) → Ready Sse x → (room : ℕ) → 16 ≤ room
+    → Told s room (activated s Sse x)
+secret_told s law free x r more big =
+    subst (λ z. Told s more (activated s Sse z)) (sym (as_bare Sse x r))
+    (share s law free x.mine.root x.mine.last x.theirs.last x.mine.newest x.theirs.newest x.room x.seed x.answering x.spare
+    r.seed_is r.answering_is r.spare_is r.enough (base_of r.mine_formed) (their_base r) r.mine_left r.theirs_left more big)
+
+pub secret_succeeds : SecretSucceeds
+secret_succeeds s law free x r more big = (secret_told s law free x r more big).shared
+
+-- an activation is a run of each of the two
+
+new_run : (s : Scheme) (means : Meaning) → IsRun s means (begun means)
+new_run s means = record { calls = []; bytes = tt; model = refl; past = refl }
+
+pub mine_activated : (s : Scheme) (x : Meeting) → Started s (activated s Sch x) → IsRun s x.mine (completes s Sch x)
+mine_activated s x start =
+    let given : End → Call = λ e. frame (last_written e.past) x.spare x.room in
+    run_called s x.mine (given (verifies s Sch x)) start.mine_given.0
+    (run_called s x.mine (given (replies s Sch x)) start.mine_given.1.0
+    (run_called s x.mine (invoke Sch s.pid x.seed x.room) start.mine_given.1.1.0
+    (new_run s x.mine)))
+
+pub theirs_activated : (s : Scheme) (x : Meeting) → Started s (activated s Sch x) → IsRun s x.theirs (verifies s Sch x)
+theirs_activated s x start =
+    run_called s x.theirs (frame (last_written (checks s Sch x).past) x.spare x.room) start.their_given.0
+    (run_called s x.theirs (frame (last_written (asks s Sch x).past) x.answering x.room) start.their_given.1.0
+    (new_run s x.theirs))
+
+-- The premises.
+
+pub kinds_serial_free : KindsSerialFree
+kinds_serial_free k = record { checks = λ root value serial serial' role. refl; links = λ root value serial serial' link link'. refl }
+
+pub new_fresh : NewIsFresh
+new_fresh means formed none = record { formed = formed; idle = refl; no_live = none; no_secret = refl; no_link = refl; none_held = refl }
+
+zeros_are : Bytes16 no_seed
+zeros_are =
+    let z : 0 < 256 = lit< tt in
+    record { long = refl; bytes = (z, (z, (z, (z, (z, (z, (z, (z, (z, (z, (z, (z, (z, (z, (z, (z, tt)))))))))))))))) }
+
+-- a suite that has made no key, and makes two
+abbrev two_left : Meaning
+two_left = bare no_seed 2 0
+
+pub some_ready : SomeReady
+some_ready =
+    let formed : WellFormed two_left = record { root = zeros_are; last = lit< tt; newest = lit≤ tt; values = tt; serials = tt; apart = tt } in (
+      record { mine = two_left; theirs = two_left; seed = no_seed; answering = no_seed; spare = no_seed; room = 255 },
+      record {
+        mine_formed = formed;
+        theirs_formed = formed;
+        roots = refl;
+        mine_none = refl;
+        theirs_none = refl;
+        mine_left = lit≤ tt;
+        theirs_left = lit≤ tt;
+        seed_is = zeros_are;
+        answering_is = zeros_are;
+        spare_is = zeros_are;
+        enough = lit≤ tt;
+      },
+    )

@@ -1,0 +1,5 @@
+pub mod Shapes
+pub mod Turns
+pub mod Records
+pub mod Activations
+pub mod Ends

@@ -1,0 +1,326 @@
+-- A record that is sent in one of two matched link sessions is handed out in the other.
+use Rattle.std.proofs.Common.{◌≡◌, ℕ, ◌+◌, ◌<◌, ◌≤◌, true, false, eqb, List, [], ◌∷◌, ◌++◌, length, Some, sym, refl, ap, ◌∙◌, subst, append_assoc, append-nil, arith, lit<}
+use Rattle.frame.specs.declared.types.Service.TheVariants.{Sch}
+use Rattle.frame.specs.Frames.{enc}
+use Rattle.suite.specs.declared.types.Role.{Role}
+use Rattle.suite.specs.declared.types.Role.TheVariants.{Sender, Recipient}
+use Rattle.suite.specs.declared.types.KeyKind.TheVariants.{LinkKey}
+use Rattle.suite.specs.Numbers.{role_byte}
+use Rattle.suite.specs.Meanings.{Meaning, Bytes, Bytes16}
+use Rattle.suite.specs.Schemes.{Scheme, Lawful, Sealable}
+use Rattle.protocol.specs.declared.outcomes.Confirmation.TheVariants as conf
+use Rattle.protocol.specs.Models.{Model, fresh}
+use Rattle.protocol.specs.Steps.{said_by}
+use Rattle.protocol.specs.Calls.{Call, send, retrieve_data, frame, Turn, turn}
+use Rattle.histories.specs.Histories.{History, GivenBytes, entered, after, confirms, answers, sent, handed}
+use Rattle.exchanges.specs.Duos.{End, Duo, called, last_answer, last_written, Meeting, Line, here, there, turned, passed, talked, said_here, said_there}
+use Rattle.exchanges.specs.Exchanges.{opposite, InLink, Matched, Fit, AllFit, HandedOver, RecordsPass, RecordPasses, IsRun}
+use Rattle.exchanges.proofs.Shapes.{value_is}
+use Rattle.exchanges.proofs.Turns.{stepped, role_ok, send_is, hear_is, data_is}
+
+-- an entity over the same suite that names the same keys
+pub record SameKeys (m m' : Model) : Type 0 where
+  pub means : m'.means ≡ m.means
+  pub secret : m'.secret ≡ m.secret
+  pub link : m'.link ≡ m.link
+
+-- one change after the other
+pub same_after : {m m' m'' : Model} → SameKeys m m' → SameKeys m' m'' → SameKeys m m''
+same_after a b = record { means = b.means ∙ a.means; secret = b.secret ∙ a.secret; link = b.link ∙ a.link }
+
+-- one more call of a run
+pub run_called : (s : Scheme) (means : Meaning) {e : End} (c : Call) → GivenBytes c → IsRun s means e → IsRun s means (called s e c)
+run_called s means {e} c given r = record {
+  calls = c ∷ r.calls;
+  bytes = (given, r.bytes);
+  model = ap (λ z. (turn s z c).model) r.model;
+  past =
+      ap (λ z. entered c (turn s z c) ∷ e.past) r.model
+      ∙ ap (λ z. entered c (turn s (after s (fresh means) r.calls) c) ∷ z) r.past;
+}
+
+-- One record.
+
+-- the history without its last call
+abbrev earlier : History → History
+earlier [] = []
+earlier (e ∷ h) = h
+
+-- between d and e this was sent and handed over
+record Passed (number : ℕ) (d : Duo) (plain : List ℕ) (e : Duo) : Type 0 where
+  matched : Matched (number + 1) e
+  over : HandedOver d e (here plain ∷ [])
+  confirmed : confirms 2 (last_answer e.one.past) ≡ true
+  available : confirms 3 (last_answer (earlier e.other.past)) ≡ true
+  retrieved : answers (last_answer e.other.past) ≡ true
+  exactly : last_written e.other.past ≡ plain
+  bytes : Bytes (last_written e.one.past)
+  mine_keys : SameKeys d.one.model e.one.model
+  their_keys : SameKeys d.other.model e.other.model
+
+-- an entity in a link session, at another number with nothing held
+moved : {value : List ℕ} {m : Model} (number : ℕ) {held : List ℕ} → held ≡ [] → InLink value m
+    → InLink value (record m { number = number; held = held })
+moved number none i = record {
+  formed = i.formed;
+  confirmed = record { state = i.confirmed.state; service = i.confirmed.service };
+  none_held = none;
+  key = i.key;
+}
+
+-- the other role is another
+opposite_differs : (r : Role) → eqb (role_byte r) (role_byte (opposite r)) ≡ false
+opposite_differs Sender = refl
+opposite_differs Recipient = refl
+
+module _ (s : Scheme) (law : Lawful s) (x : Meeting) (spare : Bytes16 x.spare) (enough : 255 ≤ x.room) (number : ℕ) (d : Duo)
+    (M : Matched number d) (plain : List ℕ) (fit : Fit plain) (low : s.first ≤ number) (below : number < s.final) where
+  -- the two, and what the one seals
+
+  abbrev sender : Model
+  sender = d.one.model
+
+  abbrev receiver : Model
+  receiver = d.other.model
+
+  abbrev role : ℕ
+  role = role_byte sender.role
+
+  abbrev payload : List ℕ
+  payload = s.seal_of sender.means.root sender.link M.value role (sender.number + 1) plain
+
+  -- the link key has sixteen bytes
+  value16 : Bytes16 M.value
+  value16 = value_is sender.means.live LinkKey sender.link M.value M.mine.formed.values M.mine.key
+
+  -- the record can be sealed; its payload is short, made of bytes, and opens to it
+  can : Sealable s (sender.number + 1) plain
+  can = let at = M.mine_at in record { some = fit.some; most = fit.most; bytes = fit.bytes; low = omega arith; high = omega arith }
+
+  size : length payload ≡ length plain + s.overhead
+  size = law.seal_long sender.means.root M.value plain sender.link role (sender.number + 1) M.mine.formed.root value16 (role_ok sender.role)
+
+  short : length payload ≤ 254
+  short = let most = fit.most in let over = law.overhead_bound in omega (arith, size)
+
+  sealed_bytes : Bytes payload
+  sealed_bytes =
+      law.seal_bytes sender.means.root M.value plain sender.link role (sender.number + 1) M.mine.formed.root value16 (role_ok sender.role) can
+
+  opened : s.open_of receiver.means.root receiver.link M.value payload ≡ Some (role, receiver.number + 1, plain)
+  opened =
+      law.opens sender.means.root receiver.means.root M.value plain sender.link receiver.link role (sender.number + 1)
+      M.mine.formed.root M.theirs.formed.root value16 (role_ok sender.role) can
+      ∙ ap (λ z. Some (role, z + 1, plain)) (M.mine_at ∙ sym M.theirs_at)
+
+  differs : eqb role (role_byte receiver.role) ≡ false
+  differs = ap (λ z. eqb role (role_byte z)) M.roles ∙ opposite_differs sender.role
+
+  -- the three calls, by what they do
+  abbrev sends : Turn
+  sends = stepped (record sender { number = sender.number + 1 }) conf.DataSent 0 (said_by Sch (enc payload))
+
+  abbrev takes : Turn
+  takes = stepped (record receiver { number = receiver.number + 1; held = plain }) conf.DataAvailable 0 []
+
+  abbrev gives : Turn
+  gives = stepped (record receiver { number = receiver.number + 1; held = [] }) conf.Nothing 0 plain
+
+  first : turn s sender (send plain x.room) ≡ sends
+  first =
+      let at = M.mine_at in
+      send_is s law sender x.room enough plain fit M.value M.mine.confirmed M.mine.key (omega arith)
+
+  second : turn s receiver (frame sends.reply x.spare x.room) ≡ takes
+  second =
+      let at = M.theirs_at in
+      hear_is s law receiver x.room enough plain fit M.value payload x.spare role M.theirs (omega arith) short spare differs opened
+
+  third : turn s takes.model (retrieve_data x.room) ≡ gives
+  third =
+      let c = M.theirs.confirmed in
+      data_is s law takes.model x.room enough plain fit (record { state = c.state; service = c.service }) refl
+
+  -- the two after these calls
+  abbrev after_calls : Turn → Turn → Turn → Duo
+  after_calls a b c = record {
+    one = record { model = a.model; past = entered (send plain x.room) a ∷ d.one.past };
+    other = record { model = c.model; past = entered (retrieve_data x.room) c ∷ entered (frame a.reply x.spare x.room) b ∷ d.other.past };
+  }
+
+  passed_by : Passed number d plain (after_calls sends takes gives)
+  passed_by = record {
+    matched = record {
+      value = M.value;
+      mine = moved (sender.number + 1) M.mine.none_held M.mine;
+      theirs = moved (receiver.number + 1) refl M.theirs;
+      roles = M.roles;
+      mine_at = ap (λ z. z + 1) M.mine_at;
+      theirs_at = ap (λ z. z + 1) M.theirs_at;
+    };
+    over = record {
+      sent_here = refl;
+      handed_there = ap (λ z. z ++ (plain ∷ [])) (append-nil (handed d.other.past));
+      sent_there = append-nil (sent d.other.past ++ []);
+      handed_here = refl;
+    };
+    confirmed = refl;
+    available = refl;
+    retrieved = refl;
+    exactly = refl;
+    bytes = (lit< tt, sealed_bytes);
+    mine_keys = record { means = refl; secret = refl; link = refl };
+    their_keys = record { means = refl; secret = refl; link = refl };
+  }
+
+  -- so it is with the calls themselves
+  pass : Passed number d plain (passed s x d plain)
+  pass =
+      let hear : Turn → Turn = λ z. turn s receiver (frame z.reply x.spare x.room) in
+      let retrieve : Turn → Turn = λ z. turn s z.model (retrieve_data x.room) in
+      let P : Turn → Turn → Turn → Type 0 = λ a b c. Passed number d plain (after_calls a b c) in
+      subst (λ z. P z (hear z) (retrieve (hear z))) (sym first)
+      (subst (λ z. P sends z (retrieve z)) (sym second)
+      (subst (λ z. P sends takes z) (sym third) passed_by))
+
+-- Many records.
+
+-- what a talk does, which leads two matched sessions to the number k
+pub record Goes (s : Scheme) (k : ℕ) (d : Duo) (talk : List Line) (e : Duo) : Type 0 where
+  pub matched : Matched k e
+  pub over : HandedOver d e talk
+  pub mine_keys : SameKeys d.one.model e.one.model
+  pub their_keys : SameKeys d.other.model e.other.model
+  pub mine_run : (means : Meaning) → IsRun s means d.one → IsRun s means e.one
+  pub their_run : (means : Meaning) → IsRun s means d.other → IsRun s means e.other
+
+-- The other's records: the two change places.
+
+twice : (r : Role) → opposite (opposite r) ≡ r
+twice Sender = refl
+twice Recipient = refl
+
+turn_matched : (number : ℕ) (d : Duo) → Matched number d → Matched number (turned d)
+turn_matched number d M = record {
+  value = M.value;
+  mine = M.theirs;
+  theirs = M.mine;
+  roles = sym (ap opposite M.roles ∙ twice d.one.model.role);
+  mine_at = M.theirs_at;
+  theirs_at = M.mine_at;
+}
+
+turn_goes : {s : Scheme} {k : ℕ} (plain : List ℕ) {d e : Duo} → Goes s k (turned d) (here plain ∷ []) e
+    → Goes s k d (there plain ∷ []) (turned e)
+turn_goes {k} plain {e} g = record {
+  matched = turn_matched k e g.matched;
+  over = record {
+    sent_here = g.over.sent_there;
+    handed_there = g.over.handed_here;
+    sent_there = g.over.sent_here;
+    handed_here = g.over.handed_there;
+  };
+  mine_keys = g.their_keys;
+  their_keys = g.mine_keys;
+  mine_run = g.their_run;
+  their_run = g.mine_run;
+}
+
+-- One record and those that come later.
+
+after_both : (a : List (List ℕ)) {b c : List (List ℕ)} (xs ys : List (List ℕ)) → b ≡ a ++ xs → c ≡ b ++ ys → c ≡ a ++ (xs ++ ys)
+after_both a xs ys p q = q ∙ ap (λ z. z ++ ys) p ∙ append_assoc a xs ys
+
+here_first : (r : Line) (later : List Line) → said_here (r ∷ []) ++ said_here later ≡ said_here (r ∷ later)
+here_first (here plain) later = refl
+here_first (there plain) later = refl
+
+there_first : (r : Line) (later : List Line) → said_there (r ∷ []) ++ said_there later ≡ said_there (r ∷ later)
+there_first (here plain) later = refl
+there_first (there plain) later = refl
+
+-- what the one sent, or the other, of a first record and of those that come later
+joined_here : (r : Line) (later : List Line) (a : List (List ℕ)) {b c : List (List ℕ)} → b ≡ a ++ said_here (r ∷ []) → c ≡ b ++ said_here later
+    → c ≡ a ++ said_here (r ∷ later)
+joined_here r later a p q =
+    after_both a (said_here (r ∷ [])) (said_here later) p q ∙ ap (λ z. a ++ z) (here_first r later)
+
+joined_there : (r : Line) (later : List Line) (a : List (List ℕ)) {b c : List (List ℕ)} → b ≡ a ++ said_there (r ∷ []) → c ≡ b ++ said_there later
+    → c ≡ a ++ said_there (r ∷ later)
+joined_there r later a p q =
+    after_both a (said_there (r ∷ [])) (said_there later) p q ∙ ap (λ z. a ++ z) (there_first r later)
+
+joined : (r : Line) (later : List Line) {s : Scheme} {k l : ℕ} {d e f : Duo} → Goes s k d (r ∷ []) e → Goes s l e later f
+    → Goes s l d (r ∷ later) f
+joined r later {d} g h = record {
+  matched = h.matched;
+  over = record {
+    sent_here = joined_here r later (sent d.one.past) g.over.sent_here h.over.sent_here;
+    handed_there = joined_here r later (handed d.other.past) g.over.handed_there h.over.handed_there;
+    sent_there = joined_there r later (sent d.other.past) g.over.sent_there h.over.sent_there;
+    handed_here = joined_there r later (handed d.one.past) g.over.handed_here h.over.handed_here;
+  };
+  mine_keys = same_after g.mine_keys h.mine_keys;
+  their_keys = same_after g.their_keys h.their_keys;
+  mine_run = λ means r. h.mine_run means (g.mine_run means r);
+  their_run = λ means r. h.their_run means (g.their_run means r);
+}
+
+-- no record
+none_said : (s : Scheme) (number : ℕ) (d : Duo) → Matched number d → Goes s number d [] d
+none_said s number d M = record {
+  matched = M;
+  over = record {
+    sent_here = sym (append-nil _);
+    handed_there = sym (append-nil _);
+    sent_there = sym (append-nil _);
+    handed_here = sym (append-nil _);
+  };
+  mine_keys = record { means = refl; secret = refl; link = refl };
+  their_keys = record { means = refl; secret = refl; link = refl };
+  mine_run = λ means r. r;
+  their_run = λ means r. r;
+}
+
+-- the same number in other words
+at_number : {s : Scheme} {n k : ℕ} {d e : Duo} {talk : List Line} → n ≡ k → Goes s n d talk e → Goes s k d talk e
+at_number {s} {d} {e} {talk} same g = subst (λ z. Goes s z d talk e) same g
+
+module _ (s : Scheme) (law : Lawful s) (x : Meeting) (spare : Bytes16 x.spare) (enough : 255 ≤ x.room) where
+  -- one record of the one
+  line_goes : (number : ℕ) (d : Duo) (plain : List ℕ) → Matched number d → Fit plain → s.first ≤ number → number < s.final
+      → Goes s (number + 1) d (here plain ∷ []) (passed s x d plain)
+  line_goes number d plain M fit low below =
+      let p = pass s law x spare enough number d M plain fit low below in
+      let heard : Call = frame (last_written (called s d.one (send plain x.room)).past) x.spare x.room in
+      record {
+        matched = p.matched;
+        over = p.over;
+        mine_keys = p.mine_keys;
+        their_keys = p.their_keys;
+        mine_run = λ means r. run_called s means (send plain x.room) fit.bytes r;
+        their_run = λ means r. run_called s means (retrieve_data x.room) tt (run_called s means heard (p.bytes, spare.bytes) r);
+      }
+
+  -- any records, as far as the numbers reach
+  pub talk_goes : (number : ℕ) (d : Duo) → s.first ≤ number → Matched number d → (talk : List Line) → AllFit talk
+      → number + length talk ≤ s.final → Goes s (number + length talk) d talk (talked s x d talk)
+  talk_goes number d low M [] fit most = at_number (omega arith) (none_said s number d M)
+  talk_goes number d low M (here plain ∷ later) fit most =
+      let g = line_goes number d plain M fit.0 (omega arith) (omega arith) in
+      let h = talk_goes (number + 1) (passed s x d plain) (omega arith) g.matched later fit.1 (omega arith) in
+      at_number (omega arith) (joined (here plain) later g h)
+  talk_goes number d low M (there plain ∷ later) fit most =
+      let g = turn_goes plain (line_goes number (turned d) plain (turn_matched number d M) fit.0 (omega arith) (omega arith)) in
+      let h = talk_goes (number + 1) (turned (passed s x (turned d) plain)) (omega arith) g.matched later fit.1 (omega arith) in
+      at_number (omega arith) (joined (there plain) later g h)
+
+pub records_pass : RecordsPass
+records_pass s law x spare enough number d low M talk fit most =
+    let g = talk_goes s law x spare enough number d low M talk fit most in
+    (g.matched, g.over)
+
+pub record_passes : RecordPasses
+record_passes s law x spare enough number d low below M plain fit =
+    let p = pass s law x spare enough number d M plain fit low below in
+    record { confirmed = p.confirmed; available = p.available; retrieved = p.retrieved; exactly = p.exactly; matched = p.matched }

@@ -1,0 +1,19 @@
+use Rattle.exchanges.proofs.Activations.{kinds_serial_free, new_fresh, some_ready, link_succeeds, secret_succeeds}
+use Rattle.exchanges.proofs.Records.{record_passes, records_pass}
+use Rattle.exchanges.proofs.Ends.{talk_succeeds, parting_succeeds, link_ends, secret_ends}
+use Rattle.exchanges.proofs.exchanges_succeed.Goals as goal
+
+pub returns : goal.returns
+returns c = record {
+  serials_free = kinds_serial_free;
+  news_fresh = new_fresh;
+  some_ready = some_ready;
+  links = link_succeeds;
+  secrets = secret_succeeds;
+  record_passes = record_passes;
+  records_pass = records_pass;
+  talks = talk_succeeds;
+  partings = parting_succeeds;
+  link_ends = link_ends;
+  secret_ends = secret_ends;
+}

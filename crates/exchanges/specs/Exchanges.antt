@@ -1,0 +1,224 @@
+-- What comes of an exchange whose frames are passed on unaltered.
+use Rattle.std.specs.Prelude.{◌≡◌, ℕ, ◌+◌, ◌<◌, ◌≤◌, true, List, [], ◌∷◌, ◌++◌, length, Some}
+use Rattle.std.specs.List.{AllByRecursion}
+use Rattle.frame.specs.declared.types.Service.{Service}
+use Rattle.frame.specs.declared.types.Service.TheVariants.{Sse, Sch}
+use Rattle.suite.specs.declared.types.Role.{Role}
+use Rattle.suite.specs.declared.types.Role.TheVariants.{Sender, Recipient}
+use Rattle.suite.specs.declared.types.KeyKind.TheVariants.{LinkKey}
+use Rattle.suite.specs.Meanings.{Meaning, Bytes, Bytes16, WellFormed, value_in}
+use Rattle.suite.specs.Schemes.{Scheme, Lawful}
+use Rattle.suite_of.specs.Kinds.{Functions, scheme_of}
+use Rattle.protocol.specs.declared.states.State.{State}
+use Rattle.protocol.specs.declared.states.State.TheVariants.{Idle, ConfirmedSse, ConfirmedSch}
+use Rattle.protocol.specs.Models.{Model, fresh}
+use Rattle.protocol.specs.Calls.{Call, send, retrieve_secret, turn}
+use Rattle.histories.specs.Histories.{Fresh, GivenBytes, after, history, confirms, answers, sent, handed}
+use Rattle.exchanges.specs.Duos.{End, Duo, called, last_answer, last_written, Meeting, hears, activated, Line, here, there, turned, passed, talked, said_here, said_there, parted}
+
+-- What is asked of a kind of suite beyond its laws: check values and link keys depend on no serial. Two peers may have given their keys
+-- different serials, and are to come to the same.
+pub record SerialFree (s : Scheme) : Type 0 where
+  pub checks : (root value : List ℕ) (serial serial' role : ℕ) → s.check_of root serial value role ≡ s.check_of root serial' value role
+  pub links : (root value : List ℕ) (serial serial' link link' : ℕ) → s.link_of root serial value link ≡ s.link_of root serial' value link'
+
+-- so it is with every kind that computes of values alone
+abbrev pub KindsSerialFree : Type 0
+KindsSerialFree = (k : Functions) → SerialFree (scheme_of k)
+
+-- a new entity over a suite without keys is fresh, so that every promise holds of its runs
+abbrev pub NewIsFresh : Type 0
+NewIsFresh = (means : Meaning) → WellFormed means → means.live ≡ [] → Fresh (fresh means)
+
+-- Activations.
+
+-- the keys that a service takes
+abbrev pub keys_for : Service → ℕ
+keys_for Sse = 1
+keys_for Sch = 2
+
+-- well-formed suites, one root, no live key, enough serials; seeds of sixteen bytes, room for any reply
+pub record Ready (service : Service) (x : Meeting) : Type 0 where
+  pub mine_formed : WellFormed x.mine
+  pub theirs_formed : WellFormed x.theirs
+  pub roots : x.theirs.root ≡ x.mine.root
+  pub mine_none : x.mine.live ≡ []
+  pub theirs_none : x.theirs.live ≡ []
+  pub mine_left : x.mine.newest + keys_for service ≤ x.mine.last
+  pub theirs_left : x.theirs.newest + keys_for service ≤ x.theirs.last
+  pub seed_is : Bytes16 x.seed
+  pub answering_is : Bytes16 x.answering
+  pub spare_is : Bytes16 x.spare
+  pub enough : 255 ≤ x.room
+
+-- the other role
+abbrev pub opposite : Role → Role
+opposite Sender = Recipient
+opposite Recipient = Sender
+
+-- the state in which a service is in effect
+abbrev pub confirmed_state : Service → State
+confirmed_state Sse = ConfirmedSse
+confirmed_state Sch = ConfirmedSch
+
+-- in the Confirmed state of a service
+pub record Confirmed (v : Service) (m : Model) : Type 0 where
+  pub state : m.state ≡ confirmed_state v
+  pub service : m.service ≡ v
+
+-- in a link session whose key has this value, with nothing held
+pub record InLink (value : List ℕ) (m : Model) : Type 0 where
+  pub formed : WellFormed m.means
+  pub confirmed : Confirmed Sch m
+  pub none_held : m.held ≡ []
+  pub key : value_in m.means.live LinkKey m.link ≡ Some value
+
+-- two link sessions under equal link keys, at one number, in opposite roles
+pub record Matched (number : ℕ) (d : Duo) : Type 0 where
+  pub value : List ℕ
+  pub mine : InLink value d.one.model
+  pub theirs : InLink value d.other.model
+  pub roles : d.other.model.role ≡ opposite d.one.model.role
+  pub mine_at : d.one.model.number ≡ number
+  pub theirs_at : d.other.model.number ≡ number
+
+-- both in Confirmed_SCH with confirmation 1, matched at the first number, and no record was sent or handed out yet
+pub record Linked (s : Scheme) (d : Duo) : Type 0 where
+  pub mine : confirms 1 (last_answer d.one.past) ≡ true
+  pub theirs : confirms 1 (last_answer d.other.past) ≡ true
+  pub matched : Matched s.first d
+  pub none_sent : (sent d.one.past ≡ []) × (sent d.other.past ≡ [])
+  pub none_handed : (handed d.one.past ≡ []) × (handed d.other.past ≡ [])
+
+-- any two entities that are ready are linked
+abbrev pub LinkSucceeds : Type 0
+LinkSucceeds = (s : Scheme) → Lawful s → SerialFree s → (x : Meeting) → Ready Sch x → Linked s (activated s Sch x)
+
+-- both in Confirmed_SSE with confirmation 1, and both users retrieve the same sixteen bytes
+pub record Shared (s : Scheme) (d : Duo) (room : ℕ) : Type 0 where
+  pub mine : confirms 1 (last_answer d.one.past) ≡ true
+  pub theirs : confirms 1 (last_answer d.other.past) ≡ true
+  pub mine_in : Confirmed Sse d.one.model
+  pub theirs_in : Confirmed Sse d.other.model
+  pub mine_told : answers (turn s d.one.model (retrieve_secret room)).answer ≡ true
+  pub theirs_told : answers (turn s d.other.model (retrieve_secret room)).answer ≡ true
+  pub long : length (turn s d.one.model (retrieve_secret room)).reply ≡ 16
+  pub same : (turn s d.other.model (retrieve_secret room)).reply ≡ (turn s d.one.model (retrieve_secret room)).reply
+
+-- or come to share a secret
+abbrev pub SecretSucceeds : Type 0
+SecretSucceeds = (s : Scheme) → Lawful s → SerialFree s → (x : Meeting) → Ready Sse x →
+    (room : ℕ) → 16 ≤ room → Shared s (activated s Sse x) room
+
+-- Records.
+
+-- the data of a record
+pub record Fit (plain : List ℕ) : Type 0 where
+  pub some : 0 < length plain
+  pub most : length plain ≤ 200
+  pub bytes : Bytes plain
+
+-- each line of a talk is the data of a record
+abbrev pub AllFit : List Line → Type 0
+AllFit [] = Unit {0}
+AllFit (here plain ∷ later) = Fit plain × AllFit later
+AllFit (there plain ∷ later) = Fit plain × AllFit later
+
+-- the record is confirmed sent and available, and exactly its bytes are retrieved; the sessions stay matched
+pub record Arrives (s : Scheme) (x : Meeting) (number : ℕ) (d : Duo) (plain : List ℕ) : Type 0 where
+  pub confirmed : confirms 2 (last_answer (called s d.one (send plain x.room)).past) ≡ true
+  pub available : confirms 3 (last_answer (hears s x d.other (called s d.one (send plain x.room))).past) ≡ true
+  pub retrieved : answers (last_answer (passed s x d plain).other.past) ≡ true
+  pub exactly : last_written (passed s x d plain).other.past ≡ plain
+  pub matched : Matched (number + 1) (passed s x d plain)
+
+-- two matched sessions hand over one record
+abbrev pub RecordPasses : Type 0
+RecordPasses = (s : Scheme) → Lawful s → (x : Meeting) → Bytes16 x.spare → 255 ≤ x.room →
+    (number : ℕ) (d : Duo) → s.first ≤ number → number < s.final → Matched number d → (plain : List ℕ) → Fit plain → Arrives s x number d plain
+
+-- between d and e these were sent and handed over, each to the other's user, all of them and in their order
+pub record HandedOver (d e : Duo) (talk : List Line) : Type 0 where
+  pub sent_here : sent e.one.past ≡ sent d.one.past ++ said_here talk
+  pub handed_there : handed e.other.past ≡ handed d.other.past ++ said_here talk
+  pub sent_there : sent e.other.past ≡ sent d.other.past ++ said_there talk
+  pub handed_here : handed e.one.past ≡ handed d.one.past ++ said_there talk
+
+-- two matched sessions hand over any records, as far as the numbers reach, and stay matched
+abbrev pub RecordsPass : Type 0
+RecordsPass = (s : Scheme) → Lawful s → (x : Meeting) → Bytes16 x.spare → 255 ≤ x.room →
+    (number : ℕ) (d : Duo) → s.first ≤ number → Matched number d → (talk : List Line) → AllFit talk → number + length talk ≤ s.final →
+    Matched (number + length talk) (talked s x d talk) × HandedOver d (talked s x d talk) talk
+
+-- the end is that of a new entity over the suite after some calls given bytes, with their history
+pub record IsRun (s : Scheme) (means : Meaning) (e : End) : Type 0 where
+  pub calls : List Call
+  pub bytes : AllByRecursion GivenBytes calls
+  pub model : e.model ≡ after s (fresh means) calls
+  pub past : e.past ≡ history s (fresh means) calls
+
+-- what two users get whose new entities are linked: all that was sent, and nothing else
+pub record AllArrives (s : Scheme) (x : Meeting) (d : Duo) (talk : List Line) : Type 0 where
+  pub sent_here : sent d.one.past ≡ said_here talk
+  pub handed_there : handed d.other.past ≡ said_here talk
+  pub sent_there : sent d.other.past ≡ said_there talk
+  pub handed_here : handed d.one.past ≡ said_there talk
+  pub mine_run : IsRun s x.mine d.one
+  pub theirs_run : IsRun s x.theirs d.other
+
+-- so it is with any talk of two entities that were ready
+abbrev pub TalkSucceeds : Type 0
+TalkSucceeds = (s : Scheme) → Lawful s → SerialFree s → (x : Meeting) → Ready Sch x →
+    (talk : List Line) → AllFit talk → s.first + length talk ≤ s.final → AllArrives s x (talked s x (activated s Sch x) talk) talk
+
+-- The end.
+
+-- both in Idle with confirmation 4
+pub record Parted (d : Duo) : Type 0 where
+  pub mine : confirms 4 (last_answer d.one.past) ≡ true
+  pub theirs : confirms 4 (last_answer d.other.past) ≡ true
+  pub mine_idle : d.one.model.state ≡ Idle
+  pub theirs_idle : d.other.model.state ≡ Idle
+
+-- two entities confirmed in one service part
+abbrev pub PartingSucceeds : Type 0
+PartingSucceeds = (s : Scheme) (x : Meeting) → Bytes16 x.spare → 255 ≤ x.room →
+    (service : Service) (d : Duo) → Confirmed service d.one.model → Confirmed service d.other.model → Parted (parted s x d)
+
+-- neither suite has a live key
+abbrev pub NoneLeft : Duo → Type 0
+NoneLeft d = (d.one.model.means.live ≡ []) × (d.other.model.means.live ≡ [])
+
+-- whichever of the two terminates, they part, and no key is left
+pub record EndsWell (s : Scheme) (x : Meeting) (d : Duo) : Type 0 where
+  pub mine : Parted (parted s x d)
+  pub mine_gone : NoneLeft (parted s x d)
+  pub theirs : Parted (parted s x (turned d))
+  pub theirs_gone : NoneLeft (parted s x (turned d))
+
+-- a link after any talk
+abbrev pub LinkEnds : Type 0
+LinkEnds = (s : Scheme) → Lawful s → SerialFree s → (x : Meeting) → Ready Sch x →
+    (talk : List Line) → AllFit talk → s.first + length talk ≤ s.final → EndsWell s x (talked s x (activated s Sch x) talk)
+
+-- and a shared secret
+abbrev pub SecretEnds : Type 0
+SecretEnds = (s : Scheme) → Lawful s → SerialFree s → (x : Meeting) → Ready Sse x → EndsWell s x (activated s Sse x)
+
+-- there are entities ready for a link
+abbrev pub SomeReady : Type 0
+SomeReady = (x : Meeting) × Ready Sch x
+
+-- all of it together
+pub record Undisturbed : Type 0 where
+  pub serials_free : KindsSerialFree
+  pub news_fresh : NewIsFresh
+  pub some_ready : SomeReady
+  pub links : LinkSucceeds
+  pub secrets : SecretSucceeds
+  pub record_passes : RecordPasses
+  pub records_pass : RecordsPass
+  pub talks : TalkSucceeds
+  pub partings : PartingSucceeds
+  pub link_ends : LinkEnds
+  pub secret_ends : SecretEnds

@@ -1,0 +1,2 @@
+pub mod Duos
+pub mod Exchanges
