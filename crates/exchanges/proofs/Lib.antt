@@ -3,3 +3,4 @@ pub mod Turns
 pub mod Records
 pub mod Activations
 pub mod Ends
+pub mod Whole

@@ -1,11 +1,3 @@
-// Two entities whose frames are passed on unaltered.
+// What comes of exchanges whose frames are passed on unaltered: no code. specs/ states it, proofs/ proves it, and the contract of a replay
+// names it.
 #![tactic(auto)]
-
-ghost use Rattle.exchanges.specs.Exchanges.{Undisturbed};
-
-// Frames passed on unaltered link two new entities, every record is handed over, and no key is left at the end.
-pub fn exchanges_succeed() -> u8
-    ensures { Undisturbed }
-{
-    0
-}

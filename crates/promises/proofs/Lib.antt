@@ -15,3 +15,4 @@ pub mod Askings
 pub mod Keeping
 pub mod Pairs
 pub mod Journals
+pub mod Whole

@@ -1,11 +1,2 @@
-// What every run of calls to an entity keeps.
+// What every run of calls promises: no code. specs/ states it, proofs/ proves it, and the contract of a replay names it.
 #![tactic(auto)]
-
-ghost use Rattle.promises.specs.Promises.{Promises};
-
-// Every run keeps account of its keys, its link sessions and its suite; two sessions under equal link keys hand out in order.
-pub fn promises_stand() -> u8
-    ensures { Promises }
-{
-    0
-}

@@ -1,11 +1,13 @@
 // Calls of two entities made again from their logs, and what every run of calls promises.
 #![tactic(auto)]
 
+mod again;
 mod call;
 mod entry;
 mod make;
 mod note;
 mod play;
 
+pub use again::{Transcripts, replay};
 pub use call::Call;
 pub use entry::{Entry, Record, Way, Written};

@@ -1,10 +1,11 @@
+-- What specs/ claims of exchanges, whole.
+use Rattle.exchanges.specs.Exchanges.{Undisturbed}
 use Rattle.exchanges.proofs.Activations.{kinds_serial_free, new_fresh, some_ready, link_succeeds, secret_succeeds}
 use Rattle.exchanges.proofs.Records.{record_passes, records_pass}
 use Rattle.exchanges.proofs.Ends.{talk_succeeds, parting_succeeds, link_ends, secret_ends}
-use Rattle.exchanges.proofs.exchanges_succeed.Goals as goal
 
-pub returns : goal.returns
-returns c = record {
+pub undisturbed_succeeds : Undisturbed
+undisturbed_succeeds = record {
   serials_free = kinds_serial_free;
   news_fresh = new_fresh;
   some_ready = some_ready;

@@ -1,0 +1,57 @@
+ghost use Rattle.std.specs.Prelude.{◌≡◌, length, IfOk, OnErr};
+ghost use Rattle.entity.specs.Views.{view};
+ghost use Rattle.replay.specs.Called.{calls_of};
+ghost use Rattle.replay.specs.Replays.{Promised, Replayed};
+
+use super::call::Call;
+use super::entry::{Entry, Written};
+use super::play::{longest, play};
+use entity::Entity;
+use protocol::Refusal;
+use std::alloc::{AllocError, Global};
+use suite::Suite;
+
+// What two logs came to: an entry for each call.
+#[derive(Drop)]
+pub struct Transcripts {
+    pub one: Vec<Entry>,
+    pub other: Vec<Entry>,
+}
+
+// Places for the entries of a log.
+fn places(alloc: Global, calls: &[Call<'_>]) -> Result<Vec<Entry>, AllocError>
+    ensures { IfOk result (λ v. length v.items ≡ length calls.now) }
+{
+    let blank = Entry {
+        answer: Err(Refusal::WrongState),
+        written: Written::nothing(),
+        record: None,
+    };
+    vec![in alloc; blank; calls.len()]
+}
+
+// Makes the calls of two logs again, each to its entity, and tells what they answered and wrote, and the records that each user sent
+// and was handed, session by session. Memory is got first: where there is none, no call is made.
+pub fn replay<S: Suite, T: Suite>(
+    alloc: Global,
+    one: &mut Entity<S>,
+    other: &mut Entity<T>,
+    calls: &[Call<'_>],
+    other_calls: &[Call<'_>],
+) -> Result<Transcripts, AllocError>
+    ensures promised { Promised }
+    ensures one { IfOk result (λ t. Replayed S.scheme (view S.meaning one.old) (calls_of calls.now) (view S.meaning one.new) t.one.items) }
+    ensures other { IfOk result (λ t. Replayed T.scheme (view T.meaning other.old) (calls_of other_calls.now) (view T.meaning other.new) t.other.items) }
+    ensures unchanged { OnErr result ((one.new ≡ one.old) × (other.new ≡ other.old)) }
+{
+    let mut first = places(alloc, calls)?;
+    let mut second = places(alloc, other_calls)?;
+    let room = longest(calls).max(longest(other_calls));
+    let mut buffer = vec![in alloc; 0; room]?;
+    play(one, calls, &mut buffer, &mut first);
+    play(other, other_calls, &mut buffer, &mut second);
+    Ok(Transcripts {
+        one: first,
+        other: second,
+    })
+}
