@@ -74,7 +74,10 @@ fn longest(rt: HostRuntime) {
     );
     let mut line = [0; 255];
     let refused = one.send(&[4; 201], &mut line);
-    let length = one.send(&[4; 200], &mut line).unwrap().length;
+    let length = one
+        .send(&[4; 200], &mut line)
+        .expect(&rt, "not sent")
+        .length;
     let heard = two.frame(&line[..length.min(255)], &[2; 16], &mut [0; 255]);
     assert_eq!(rt; (refused, length), (Err(Refusal::DataLength), 207));
     assert_eq!(rt;
