@@ -54,7 +54,6 @@ fn establish(
 
 #[test]
 fn exchange(rt: HostRuntime) {
-    const BOTH: Destroyed = Destroyed { link: 2, secret: 1 };
     let mut line = Line {
         bytes: [0; 255],
         length: 0,
@@ -66,45 +65,17 @@ fn exchange(rt: HostRuntime) {
     let _ = line.takes(&rt, sent, Confirmation::DataSent);
     let _ = line.reaches(&rt, &mut recipient, Confirmation::DataAvailable);
     let mut out = [9; 255];
-    is(
-        &rt,
-        recipient.retrieve_data(&mut out),
-        &out,
-        Ok(Confirmation::Nothing),
-        b"AB",
-    );
+    let retrieved = recipient.retrieve_data(&mut out);
+    wrote(&rt, retrieved, &out, Confirmation::Nothing, b"AB");
     let ended = recipient.terminate(&mut line.bytes);
-    assert_eq!(rt; line.takes(&rt, ended, Confirmation::Terminated), BOTH);
-    assert_eq!(rt;
+    let destroyed = [
+        line.takes(&rt, ended, Confirmation::Terminated),
         line.reaches(&rt, &mut sender, Confirmation::Terminated),
-        BOTH
-    );
-    assert_eq!(rt;
-        (sender.state(), recipient.state()),
-        (State::Idle, State::Idle)
-    );
+    ];
+    assert_eq!(rt; destroyed, [Destroyed { link: 2, secret: 1 }; 2]);
+    assert_eq!(rt; [sender.state(), recipient.state()], [State::Idle; 2]);
     let (suite, _) = sender.put_away();
     let _root = suite.close();
     let (suite, _) = recipient.put_away();
-    let _root = suite.close();
-}
-
-// The link below goes while a session is asked for.
-#[test]
-fn release(rt: HostRuntime) {
-    let mut sender = entity(&rt, KeyedSuite::new(ROOT));
-    let mut line = Line {
-        bytes: [0; 255],
-        length: 0,
-    };
-    let invoked = sender.invoke(Service::Sse, 0xF1, &[1; 16], &mut line.bytes);
-    let _ = line.takes(&rt, invoked, Confirmation::Nothing);
-    let confirmed = sender.release().confirmation;
-    let again = sender.release().confirmation;
-    assert_eq!(rt;
-        (line.length, confirmed, again),
-        (18, Confirmation::Terminated, Confirmation::Nothing)
-    );
-    let (suite, _) = sender.put_away();
     let _root = suite.close();
 }
