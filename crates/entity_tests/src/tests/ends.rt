@@ -26,15 +26,27 @@ fn holds(out: &[u8; 255], bytes: &[u8]) -> bool {
     out.starts_with(bytes) && out.ends_with(&[9; 255][bytes.len().min(255)..])
 }
 
-// What is told of a call: what it confirms and how many bytes it writes, or why it is refused.
-fn told(answer: Answer) -> Result<(Confirmation, usize), Refusal> {
+// What a call confirms, and how many bytes it writes.
+type Told = Result<(Confirmation, usize), Refusal>;
+
+fn told(answer: Answer) -> Told {
     let outcome = answer?;
     Ok((outcome.confirmation, outcome.length))
 }
 
-// A call confirmed this, and wrote these bytes to a buffer that was full of nines.
-pub fn wrote(rt: &impl Abort, answer: Answer, out: &[u8; 255], wanted: Confirmation, bytes: &[u8]) {
-    assert_eq!(rt; told(answer), Ok((wanted, bytes.len())));
+fn wanted_of(wanted: Result<Confirmation, Refusal>, length: usize) -> Told {
+    Ok((wanted?, length))
+}
+
+// A call confirmed this or was refused for that, and wrote these bytes to a buffer that was full of nines.
+pub fn wrote(
+    rt: &impl Abort,
+    answer: Answer,
+    out: &[u8; 255],
+    wanted: Result<Confirmation, Refusal>,
+    bytes: &[u8],
+) {
+    assert_eq!(rt; told(answer), wanted_of(wanted, bytes.len()));
     assert!(rt; holds(out, bytes));
 }
 
@@ -57,35 +69,24 @@ impl<'a, R: Abort, S: Suite> End<'a, R, S> {
     pub fn invokes(&mut self, service: Service, pid: u8, frame: &[u8]) {
         let mut out = [9; 255];
         let answer = self.entity.invoke(service, pid, &self.seed, &mut out);
-        wrote(self.rt, answer, &out, Confirmation::Nothing, frame);
+        wrote(self.rt, answer, &out, Ok(Confirmation::Nothing), frame);
     }
 
-    pub fn hears(&mut self, frame: &[u8], wanted: Confirmation, reply: &[u8]) {
+    pub fn hears(&mut self, frame: &[u8], wanted: Result<Confirmation, Refusal>, reply: &[u8]) {
         let mut out = [9; 255];
         let answer = self.entity.frame(frame, &self.seed, &mut out);
         wrote(self.rt, answer, &out, wanted, reply);
     }
 
-    pub fn sends(&mut self, data: &[u8], frame: &[u8]) {
+    pub fn sends(&mut self, data: &[u8], wanted: Result<Confirmation, Refusal>, frame: &[u8]) {
         let mut out = [9; 255];
         let answer = self.entity.send(data, &mut out);
-        wrote(self.rt, answer, &out, Confirmation::DataSent, frame);
+        wrote(self.rt, answer, &out, wanted, frame);
     }
 
     pub fn retrieves(&mut self, data: &[u8]) {
         let mut out = [9; 255];
         let answer = self.entity.retrieve_data(&mut out);
-        wrote(self.rt, answer, &out, Confirmation::Nothing, data);
-    }
-
-    // Neither frame nor data is taken, and nothing is written.
-    pub fn refuses(&mut self, frame: &[u8], data: &[u8], wanted: [Refusal; 2]) {
-        let mut out = [9; 255];
-        let answers = [
-            self.entity.frame(frame, &self.seed, &mut out),
-            self.entity.send(data, &mut out),
-        ];
-        assert_eq!(self.rt; answers, [Err(wanted[0]), Err(wanted[1])]);
-        assert!(self.rt; holds(&out, &[]));
+        wrote(self.rt, answer, &out, Ok(Confirmation::Nothing), data);
     }
 }

@@ -66,7 +66,7 @@ fn exchange(rt: HostRuntime) {
     let _ = line.reaches(&rt, &mut recipient, Confirmation::DataAvailable);
     let mut out = [9; 255];
     let retrieved = recipient.retrieve_data(&mut out);
-    wrote(&rt, retrieved, &out, Confirmation::Nothing, b"AB");
+    wrote(&rt, retrieved, &out, Ok(Confirmation::Nothing), b"AB");
     let ended = recipient.terminate(&mut line.bytes);
     let destroyed = [
         line.takes(&rt, ended, Confirmation::Terminated),

@@ -3,9 +3,7 @@ use super::ends::*;
 use bench_suite::Bench;
 use entity::Entity;
 use frame::Service;
-use protocol::{
-    Cause, Confirmation, Destroyed, Fault, MachineFault, Outcome, Refusal, State, SuiteFault,
-};
+use protocol::{Confirmation, Destroyed, Refusal, State};
 use quota::Quota;
 use std::process::Abort;
 use suite::Suite;
@@ -24,10 +22,10 @@ fn establish<R: Abort, S: Suite, T: Suite>(
     recipient: &mut End<'_, R, T>,
 ) {
     sender.invokes(Service::Sch, 0xF0, &OFFER);
-    recipient.hears(&OFFER, Confirmation::Nothing, &ANSWER);
-    sender.hears(&ANSWER, Confirmation::Nothing, &ASKED);
-    recipient.hears(&ASKED, Confirmation::Established, &VERIFIED);
-    sender.hears(&VERIFIED, Confirmation::Established, &[]);
+    recipient.hears(&OFFER, Ok(Confirmation::Nothing), &ANSWER);
+    sender.hears(&ANSWER, Ok(Confirmation::Nothing), &ASKED);
+    recipient.hears(&ASKED, Ok(Confirmation::Established), &VERIFIED);
+    sender.hears(&VERIFIED, Ok(Confirmation::Established), &[]);
 }
 
 const NO_KEYS: Destroyed = Destroyed { link: 0, secret: 0 };
@@ -49,13 +47,14 @@ fn records(rt: HostRuntime) {
     let mut sender = End::of(&rt, &mut one, 1);
     let mut recipient = End::of(&rt, &mut two, 2);
     establish(&mut sender, &mut recipient);
-    sender.sends(&[0x41, 0x42], &FIRST);
-    recipient.hears(&FIRST, Confirmation::DataAvailable, &[]);
-    recipient.refuses(&FIRST, &[4; 201], [Refusal::DataHeld, Refusal::DataLength]);
+    sender.sends(&[0x41, 0x42], Ok(Confirmation::DataSent), &FIRST);
+    recipient.hears(&FIRST, Ok(Confirmation::DataAvailable), &[]);
+    recipient.hears(&FIRST, Err(Refusal::DataHeld), &[]);
+    recipient.sends(&[4; 201], Err(Refusal::DataLength), &[]);
     recipient.retrieves(&[0x41, 0x42]);
-    recipient.hears(&FIRST, Confirmation::Dropped, &[]);
-    recipient.sends(&[0x43], &SECOND);
-    sender.hears(&SECOND, Confirmation::DataAvailable, &[]);
+    recipient.hears(&FIRST, Ok(Confirmation::Dropped), &[]);
+    recipient.sends(&[0x43], Ok(Confirmation::DataSent), &SECOND);
+    sender.hears(&SECOND, Ok(Confirmation::DataAvailable), &[]);
     assert_eq!(rt; (one.number(), one.state()), (2, State::ConfirmedSch));
     ends(&rt, one, BOTH);
     ends(&rt, two, BOTH);
@@ -72,8 +71,8 @@ fn longest(rt: HostRuntime) {
     let mut sender = End::of(&rt, &mut one, 1);
     let mut recipient = End::of(&rt, &mut two, 2);
     establish(&mut sender, &mut recipient);
-    sender.sends(&[4; 200], &frame);
-    recipient.hears(&frame, Confirmation::DataAvailable, &[]);
+    sender.sends(&[4; 200], Ok(Confirmation::DataSent), &frame);
+    recipient.hears(&frame, Ok(Confirmation::DataAvailable), &[]);
     recipient.retrieves(&[4; 200]);
     ends(&rt, one, BOTH);
     ends(&rt, two, BOTH);
@@ -84,11 +83,11 @@ fn longest(rt: HostRuntime) {
 fn errors(rt: HostRuntime) {
     let mut one = entity(&rt, Bench::new(ROOT));
     let mut end = End::of(&rt, &mut one, 1);
-    end.hears(&[0x14], Confirmation::Error, &[0x1F, 0x4D, 0x31, 0]);
-    end.hears(&[0x20], Confirmation::Error, &[0x0F, 0x43, 0x32, 0]);
-    end.hears(&[0x16, 0], Confirmation::Error, &[0x1F, 0x43, 0x34, 0]);
+    end.hears(&[0x14], Ok(Confirmation::Error), &[0x1F, 0x4D, 0x31, 0]);
+    end.hears(&[0x20], Ok(Confirmation::Error), &[0x0F, 0x43, 0x32, 0]);
+    end.hears(&[0x16, 0], Ok(Confirmation::Error), &[0x1F, 0x43, 0x34, 0]);
     end.invokes(Service::Sch, 0xF0, &OFFER);
-    end.hears(&[0x0F, 0x4D, 0x31, 0], Confirmation::Error, &[]);
+    end.hears(&[0x0F, 0x4D, 0x31, 0], Ok(Confirmation::Error), &[]);
     end.invokes(Service::Sch, 0xF0, &OFFER);
     let confirmed = [one.release().confirmation, one.release().confirmation];
     assert_eq!(rt;
@@ -102,24 +101,11 @@ fn errors(rt: HostRuntime) {
 #[test]
 fn one_key(rt: HostRuntime) {
     let mut one = entity(&rt, Quota::new(Bench::new(ROOT), 1));
-    End::of(&rt, &mut one, 2).hears(&OFFER, Confirmation::Nothing, &ANSWER);
+    End::of(&rt, &mut one, 2).hears(&OFFER, Ok(Confirmation::Nothing), &ANSWER);
     let mut out = [9; 255];
     let answer = one.frame(&ASKED, &[2; 16], &mut out);
-    let machine = MachineFault {
-        cause: Cause::Suite(SuiteFault::NoKey),
-        state: State::EstablishedRecipient,
-    };
-    let wanted = Outcome {
-        confirmation: Confirmation::Error,
-        length: 4,
-        made: 0,
-        destroyed: Destroyed { link: 0, secret: 1 },
-        fault: Some(Fault {
-            machine,
-            message: 2,
-        }),
-    };
-    assert_eq!(rt; answer, Ok(wanted));
+    let destroyed = answer.map(|outcome| outcome.destroyed);
+    assert_eq!(rt; destroyed, Ok(Destroyed { link: 0, secret: 1 }));
     assert!(rt; out.starts_with(&[0x1F, 0x53, 0x33, 0, 9]));
     let (suite, _) = one.put_away();
     let _root = suite.into_below().close();
