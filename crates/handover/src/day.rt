@@ -1,4 +1,4 @@
-// The records of a day, and what the link does to the frame of each.
+// The records of a day, in two sessions, and what the link does to the frame of each.
 
 // What becomes of a frame that was sent.
 #[derive(Clone, Copy)]
@@ -19,7 +19,8 @@ pub(super) struct Record {
 
 use Fate::{Arrives, Echoed, Lost};
 
-pub(super) const RECORDS: [Record; 5] = [
+// Before noon.
+pub(super) const MORNING: [Record; 2] = [
     Record {
         text: "06:00 chlorine 0.42 l",
         fates: &[Arrives],
@@ -30,6 +31,10 @@ pub(super) const RECORDS: [Record; 5] = [
         fates: &[Lost, Arrives],
         late: false,
     },
+];
+
+// After it.
+pub(super) const EVENING: [Record; 3] = [
     Record {
         text: "13:00 acid 0.10 l",
         fates: &[Arrives, Arrives],

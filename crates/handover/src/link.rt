@@ -26,7 +26,7 @@ pub(super) fn hand_over<S: Suite, T: Suite>(
     to: &mut Station<T>,
     record: &Record,
 ) -> Result<(), Stopped> {
-    from.send(record.text.as_bytes())?;
+    from.send(record.text)?;
     let frame = from.frame();
     for fate in record.fates {
         match fate {

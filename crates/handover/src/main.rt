@@ -1,13 +1,18 @@
-// A controller hands a day's dosing records to a handset, over a link that loses, repeats and echoes frames. Each call is printed.
+// A controller hands a day's dosing records to a handset, over a link that loses, repeats and echoes frames. Each call is printed; then the
+// calls of both ends are made again from their logs, which tells what is charged.
 #![tactic(auto)]
 
+mod bill;
 mod day;
 mod link;
+mod log;
 mod station;
 mod stopped;
 
 use activation::{Agreed, Offered};
-use day::RECORDS;
+use bill::{Logs, bill};
+use day::{EVENING, MORNING, Record};
+use entity::Entity;
 use keyed_suite::KeyedSuite;
 use link::{activate, hand_over, terminate};
 use protocol::Destroyed;
@@ -30,14 +35,19 @@ fn agreed() -> Result<Agreed, Stopped> {
     )
 }
 
-fn run<S: Suite, T: Suite>(
+fn suite() -> KeyedSuite {
+    KeyedSuite::new(ROOT)
+}
+
+fn session<S: Suite, T: Suite>(
     rt: &HostRuntime,
     handset: &mut Station<S>,
     controller: &mut Station<T>,
+    records: &[Record],
 ) -> Result<(), Stopped> {
     println!(rt; "Activation")?;
     activate(handset, controller)?;
-    for record in &RECORDS {
+    for record in records {
         println!(rt; "Record '{}'", record.text)?;
         hand_over(controller, handset, record)?;
     }
@@ -45,21 +55,56 @@ fn run<S: Suite, T: Suite>(
     terminate(controller, handset)
 }
 
-fn report(rt: &HostRuntime, name: &str, destroyed: Destroyed) -> io::Result<()> {
-    let Destroyed { link, secret } = destroyed;
+fn run<S: Suite, T: Suite>(
+    rt: &HostRuntime,
+    handset: &mut Station<S>,
+    controller: &mut Station<T>,
+) -> Result<(), Stopped> {
+    session(rt, handset, controller, &MORNING)?;
+    session(rt, handset, controller, &EVENING)
+}
+
+fn end(rt: &HostRuntime, name: &str, entity: Entity<KeyedSuite>) -> io::Result<()> {
+    let (suite, Destroyed { link, secret }) = entity.put_away();
+    let _root = suite.close();
     println!(rt; "  {name} away: destroyed {link} {secret}")
 }
 
-fn main(rt: HostRuntime) -> Result<(), Stopped> {
+// The day: what is handed over, and the logs of it.
+fn live(rt: &HostRuntime) -> Result<Logs, Stopped> {
     let (one, other) = (agreed()?, agreed()?);
-    let mut handset = Station::new(&rt, "handset", one, KeyedSuite::new(ROOT));
-    let mut controller = Station::new(&rt, "controller", other, KeyedSuite::new(ROOT));
-    let result = run(&rt, &mut handset, &mut controller);
-    let (suite, by_handset) = handset.put_away();
-    let _root = suite.close();
-    let (suite, by_controller) = controller.put_away();
-    let _root = suite.close();
-    report(&rt, "handset", by_handset)?;
-    report(&rt, "controller", by_controller)?;
-    result
+    let mut handset = Station::new(rt, "handset", one, suite());
+    let mut controller = Station::new(rt, "controller", other, suite());
+    let result = run(rt, &mut handset, &mut controller);
+    let (one, handset) = handset.into_parts();
+    let (other, controller) = controller.into_parts();
+    let ended = (end(rt, "handset", one), end(rt, "controller", other));
+    result?;
+    ended.0?;
+    ended.1?;
+    Ok(Logs {
+        handset,
+        controller,
+    })
+}
+
+// The bill: the same calls once more, on two new entities.
+fn again(rt: &HostRuntime, logs: &Logs) -> Result<(), Stopped> {
+    let (one, other) = (agreed()?, agreed()?);
+    let mut handset = Entity::new(one, suite());
+    let mut controller = Entity::new(other, suite());
+    let result = bill(rt, &mut handset, &mut controller, logs);
+    let ended = (
+        end(rt, "handset", handset),
+        end(rt, "controller", controller),
+    );
+    result?;
+    ended.0?;
+    Ok(ended.1?)
+}
+
+fn main(rt: HostRuntime) -> Result<(), Stopped> {
+    let logs = live(&rt)?;
+    println!(rt; "The logs made again")?;
+    again(&rt, &logs)
 }

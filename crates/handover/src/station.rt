@@ -1,4 +1,6 @@
-// A device with its entity. Each call prints a line: the call, what it answered and wrote, and where it left the entity.
+// A device with its entity. Each call is noted in a log, and prints a line: the call, what it answered and wrote, and where it left the
+// entity.
+use super::log::Made;
 use super::stopped::Stopped;
 use activation::Agreed;
 use entity::Entity;
@@ -8,9 +10,9 @@ use std::alloc::AllocError;
 use suite::Suite;
 
 // Fixed seeds, so that a run can be followed. A device draws a new one each time.
-const OWN_SEED: [u8; 16] = [0x5A; 16];
+pub(super) const OWN_SEED: [u8; 16] = [0x5A; 16];
 
-const SPARE_SEED: [u8; 16] = [0xA5; 16];
+pub(super) const SPARE_SEED: [u8; 16] = [0xA5; 16];
 
 // The frame that a device sent last.
 #[derive(Clone, Copy)]
@@ -21,7 +23,7 @@ pub(super) struct Frame {
 
 impl Frame {
     // Cut at the buffer's length: that it is within follows from what was written, by a lemma that a program need not carry.
-    fn bytes(&self) -> &[u8] {
+    pub(super) fn bytes(&self) -> &[u8] {
         &self.bytes[..self.length.min(MAX_FRAME)]
     }
 }
@@ -31,6 +33,7 @@ pub(super) struct Station<'a, S> {
     name: &'static str,
     entity: Entity<S>,
     last: Frame,
+    log: Vec<Made>,
 }
 
 impl<'a, S: Suite> Station<'a, S> {
@@ -48,17 +51,25 @@ impl<'a, S: Suite> Station<'a, S> {
                 bytes: [0; MAX_FRAME],
                 length: 0,
             },
+            log: Vec::new(rt.alloc()),
         }
     }
 
-    pub(super) fn put_away(self) -> (S, Destroyed) {
+    // The entity and the log of its calls.
+    pub(super) fn into_parts(self) -> (Entity<S>, Vec<Made>) {
         let Station {
             rt: _,
             name: _,
             entity,
             last: _,
+            log,
         } = self;
-        entity.put_away()
+        (entity, log)
+    }
+
+    // Notes a call that is about to be made.
+    fn note(&mut self, made: Made) -> Result<(), Stopped> {
+        Ok(self.log.push(made).map_err(AllocError::from)?)
     }
 
     pub(super) fn frame(&self) -> Frame {
@@ -132,24 +143,28 @@ impl<'a, S: Suite> Station<'a, S> {
     }
 
     pub(super) fn invoke(&mut self, service: Service, pid: u8) -> Result<(), Stopped> {
+        self.note(Made::Invoke(service, pid))?;
         let mut reply = [0; MAX_FRAME];
         let answer = self.entity.invoke(service, pid, &OWN_SEED, &mut reply);
         self.keep("invoke", answer, reply)
     }
 
     pub(super) fn hear(&mut self, frame: &Frame) -> Result<(), Stopped> {
+        self.note(Made::Heard(*frame))?;
         let mut reply = [0; MAX_FRAME];
         let answer = self.entity.frame(frame.bytes(), &SPARE_SEED, &mut reply);
         self.keep("frame", answer, reply)
     }
 
-    pub(super) fn send(&mut self, record: &[u8]) -> Result<(), Stopped> {
+    pub(super) fn send(&mut self, record: &'static str) -> Result<(), Stopped> {
+        self.note(Made::Sent(record))?;
         let mut reply = [0; MAX_FRAME];
-        let answer = self.entity.send(record, &mut reply);
+        let answer = self.entity.send(record.as_bytes(), &mut reply);
         self.keep("send", answer, reply)
     }
 
     pub(super) fn terminate(&mut self) -> Result<(), Stopped> {
+        self.note(Made::Terminated)?;
         let mut reply = [0; MAX_FRAME];
         let answer = self.entity.terminate(&mut reply);
         self.keep("terminate", answer, reply)
@@ -157,6 +172,7 @@ impl<'a, S: Suite> Station<'a, S> {
 
     // The data handed out is no frame, and is not kept.
     pub(super) fn retrieve(&mut self) -> Result<(), Stopped> {
+        self.note(Made::Retrieved)?;
         let mut bytes = [0; MAX_FRAME];
         let answer = self.entity.retrieve_data(&mut bytes);
         let length = answer.map_or(0, |outcome| outcome.length);

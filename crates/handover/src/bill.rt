@@ -1,0 +1,63 @@
+// What the two logs come to when their calls are made again: the records that were sent and handed, session by session.
+use super::log::Made;
+use super::stopped::Stopped;
+use entity::Entity;
+use replay::{Call, Entry, Record, Way, replay};
+use std::alloc::{AllocError, Global};
+use suite::Suite;
+
+// The logs of the two ends.
+#[derive(Drop)]
+pub(super) struct Logs {
+    pub(super) handset: Vec<Made>,
+    pub(super) controller: Vec<Made>,
+}
+
+fn calls(alloc: Global, log: &[Made]) -> Result<Vec<Call<'_>>, AllocError> {
+    log.iter().map(|made| made.call()).collect(alloc)
+}
+
+fn show(rt: &HostRuntime, name: &str, record: &Record) -> Result<(), Stopped> {
+    let session = record.session;
+    let way = match record.way {
+        Way::Sent => "sent",
+        Way::Handed => "handed",
+    };
+    let bytes = hex_text::encode(rt.alloc(), record.plain.bytes())?;
+    Ok(println!(rt; "  {name}, session {session}: {way} {bytes}")?)
+}
+
+fn show_records(rt: &HostRuntime, name: &str, entries: &[Entry]) -> Result<(), Stopped> {
+    for entry in entries {
+        if let Some(record) = &entry.record {
+            show(rt, name, record)?;
+        }
+    }
+    Ok(())
+}
+
+// How many records a user was handed.
+fn handed(entries: &[Entry]) -> usize {
+    entries
+        .iter()
+        .filter(|entry| entry.record.is_some_and(|record| record.way == Way::Handed))
+        .count()
+}
+
+// Makes the calls of both logs again on two new entities, and prints what each user sent and was handed. What the handset was handed is
+// charged.
+pub(super) fn bill<S: Suite, T: Suite>(
+    rt: &HostRuntime,
+    handset: &mut Entity<S>,
+    controller: &mut Entity<T>,
+    logs: &Logs,
+) -> Result<(), Stopped> {
+    let alloc = rt.alloc();
+    let one = calls(alloc, &logs.handset)?;
+    let other = calls(alloc, &logs.controller)?;
+    let told = replay(alloc, handset, controller, &one, &other)?;
+    show_records(rt, "controller", &told.other)?;
+    show_records(rt, "handset", &told.one)?;
+    let charged = handed(&told.one);
+    Ok(println!(rt; "  charged: {charged} records")?)
+}
