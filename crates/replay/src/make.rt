@@ -1,4 +1,4 @@
-ghost use Rattle.std.specs.Prelude.{◌≡◌, ◌≤◌, length, IfOk};
+ghost use Rattle.std.specs.Prelude.{◌≡◌, ◌≤◌, length, replicate, IfOk};
 ghost use Rattle.buffers.specs.Buffers.{over};
 ghost use Rattle.protocol.specs.Calls.{turn};
 ghost use Rattle.entity.specs.Views.{view};
@@ -61,6 +61,7 @@ pub(crate) fn make<S: Suite>(
     ensures model { view S.meaning entity.new ≡ (turn S.scheme (view S.meaning entity.old) (called call.now)).model }
     ensures answer { result.0 ≡ (turn S.scheme (view S.meaning entity.old) (called call.now)).answer }
     ensures written { bytes_of result.1 ≡ (turn S.scheme (view S.meaning entity.old) (called call.now)).reply }
+    ensures cleared { buffer.new ≡ over (replicate (room_of call.now) 0) buffer.old }
 {
     let slip = Slip::take_out();
     let lent = &mut buffer[..call.room()];
