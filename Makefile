@@ -1,11 +1,10 @@
-# make run: build the main programs and run them: a capture explained, and suites at work
+# make run: build the main program and run it: a day's records handed over, and the bill
 # make test: the whole gate
 
 .PHONY: run test bench
 
 run:
-	@tools/run inspect <crates/inspect/stdin
-	@tools/run trial
+	@tools/run handover
 
 test:
 	@.ci/run
