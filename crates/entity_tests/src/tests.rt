@@ -1,3 +1,4 @@
 mod ends;
 mod exchanges;
+mod limits;
 mod worked;

@@ -18,7 +18,7 @@ pub record Model : Type 0 where
   -- the session's; in Idle, that of the last session
   pub service : Service
   pub role : Role
-  -- kept from the invocation to the peer's offer
+  -- kept from the invocation on, zeros in Idle
   pub seed : List ℕ
   -- the number of the newest record of the session
   pub number : ℕ
