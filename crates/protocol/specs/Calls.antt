@@ -110,7 +110,7 @@ release_turn m = ended m (cond (in_state m st.Idle) conf.Nothing conf.Terminated
 
 -- Frames.
 
--- a record of the session's service, in Confirmed_SCH while data is held
+-- a record, in Confirmed_SCH
 abbrev pub is_record : State → Said → Bool
 is_record state (act_req pid p) = false
 is_record state (act_res p) = false
@@ -120,6 +120,7 @@ is_record state (enc p) = state_mark state == state_mark st.ConfirmedSch
 is_record state (tmn p) = false
 is_record state (error p) = false
 
+-- a record of the session's service, in Confirmed_SCH while data is held
 abbrev pub blocked : Model → Parts → Bool
 blocked m p = is_record m.state p.said && same_service p.service m.service && not (is_empty m.held)
 

@@ -13,7 +13,7 @@ use Rattle.protocol.specs.Models.{Model, no_seed}
 use Rattle.protocol.specs.Steps.{said_by}
 use Rattle.protocol.specs.Calls.{Call, Turn, error_payload, turn}
 
--- no key, and nothing of a session, is left
+-- no key is named, and nothing of a session is left
 pub record Cleared (m : Model) : Type 0 where
   pub seed : m.seed ≡ no_seed
   pub number : m.number ≡ 0
