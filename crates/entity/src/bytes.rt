@@ -11,7 +11,7 @@ use frame::{Body, MAX_FRAME, Message, Service, write};
 use protocol::Refusal;
 
 // A reply buffer takes any frame.
-pub fn has_room(reply: &[u8]) -> Result<(), Refusal>
+pub(crate) fn has_room(reply: &[u8]) -> Result<(), Refusal>
     ensures { result ≡ cond (no_room (length reply.now)) (Err ReplyBuffer) (Ok tt) }
 {
     if reply.len() < MAX_FRAME {
@@ -20,14 +20,14 @@ pub fn has_room(reply: &[u8]) -> Result<(), Refusal>
     Ok(())
 }
 
-pub fn sixteen(seed: &[u8]) -> Result<&[u8; 16], Refusal>
+pub(crate) fn sixteen(seed: &[u8]) -> Result<&[u8; 16], Refusal>
     ensures { result_map_both (λ x. x.now) (λ e. e) result ≡ cond (wrong_seed seed.now) (Err SeedLength) (Ok seed.now) }
 {
     seed.as_array::<16>().ok_or(Refusal::SeedLength)
 }
 
 // Writes bytes to the front of a buffer, and answers how many.
-pub fn write_front(bytes: &[u8], out: &mut [u8]) -> usize
+pub(crate) fn write_front(bytes: &[u8], out: &mut [u8]) -> usize
     requires { length bytes.now ≤ length out.old }
     ensures answer { result ≡ length bytes.now }
     ensures buffer { out.new ≡ over bytes.now out.old }
@@ -37,7 +37,7 @@ pub fn write_front(bytes: &[u8], out: &mut [u8]) -> usize
 }
 
 // Writes a message to the front of a buffer that takes any frame, and answers its length.
-pub fn put(service: Service, body: Body<'_>, reply: &mut [u8]) -> usize
+pub(crate) fn put(service: Service, body: Body<'_>, reply: &mut [u8]) -> usize
     requires room { 255 ≤ length reply.old }
     requires short { length (said_by service (says body)) ≤ 255 }
     requires plain { laden (says body) ≡ false }

@@ -19,7 +19,7 @@ impl Model for Held {
 }
 
 impl Held {
-    pub fn nothing() -> Held
+    pub(crate) fn nothing() -> Held
         ensures { result ≡ [] }
     {
         Held {
@@ -29,7 +29,7 @@ impl Held {
     }
 
     #[tactic(auto, using(crate::proofs::Padding::padded))]
-    pub fn new(plain: &[u8]) -> Held
+    pub(crate) fn new(plain: &[u8]) -> Held
         requires { length plain.now ≤ 200 }
         ensures { result ≡ plain.now }
     {
@@ -38,13 +38,13 @@ impl Held {
         Held { place, filled }
     }
 
-    pub fn is_empty(&self) -> bool
+    pub(crate) fn is_empty(&self) -> bool
         ensures { result ≡ (length self.now == 0) }
     {
         self.filled == 0
     }
 
-    pub fn bytes(&self) -> &[u8]
+    pub(crate) fn bytes(&self) -> &[u8]
         ensures bytes { result.now ≡ self.now }
         ensures short { length result.now ≤ 200 }
     {

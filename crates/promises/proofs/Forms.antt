@@ -97,16 +97,16 @@ made_one s law root last n seed offer value role base sb ob q =
     let r3 : Result (List ℕ) Denial = Ok (s.secret_of root (n + 1) role seed offer) in
     let r2 : Result (List ℕ) Denial = cond (spent m) (Err denied.Spent) r3 in
     let r1 : Result (List ℕ) Denial = cond (not (s.fit_of root offer)) (Err denied.BadOffer) r2 in
-    let p1 = passes (wrong_seed seed || not (ok_role role)) denied.Unfit r1 value q in
-    let p2 = passes (not (s.fit_of root offer)) denied.BadOffer r2 value p1.1 in
-    let p3 = passes (spent m) denied.Spent r3 value p2.1 in
-    let a = or_parts (wrong_seed seed) (not (ok_role role)) p1.0 in
+    let first = passes (wrong_seed seed || not (ok_role role)) denied.Unfit r1 value q in
+    let second = passes (not (s.fit_of root offer)) denied.BadOffer r2 value first.1 in
+    let third = passes (spent m) denied.Spent r3 value second.1 in
+    let a = or_parts (wrong_seed seed) (not (ok_role role)) first.0 in
     let long : length seed ≡ 16 = eqb-true (length seed) 16 (not-false (eqb (length seed) 16) a.0) in
     let ok : ok_role role ≡ true = not-false (ok_role role) a.1 in
-    let fit : s.fit_of root offer ≡ true = not-false (s.fit_of root offer) p2.0 in
+    let fit : s.fit_of root offer ≡ true = not-false (s.fit_of root offer) second.0 in
     let v16 : Bytes16 (s.secret_of root (n + 1) role seed offer) = law.secret_is root seed offer (n + 1) role base.root16 (record { long = long; bytes = sb }) ob ok fit in
-    let same : s.secret_of root (n + 1) role seed offer ≡ value = cc (p3.1) in
-    let left : n + 1 ≤ last = more_left n last base.below p3.0 in
+    let same : s.secret_of root (n + 1) role seed offer ≡ value = cc (third.1) in
+    let left : n + 1 ≤ last = more_left n last base.below third.0 in
     let pos : 0 < n + 1 = omega arith in
     record { base = record { root16 = base.root16; below = left; word = base.word }; pos = pos; value = subst (λ z. Bytes16 z) same v16 }
 
