@@ -1,9 +1,10 @@
-// Two peers by hand: reads a script of calls from standard input, and prints one line for each.
+// Two peers by hand: reads a script of calls from standard input, and prints one line for each. The script is described in docs/CONSOLE.md.
 #![tactic(auto)]
 
 mod answer;
 mod call;
 mod peer;
+mod printer;
 mod script;
 mod setup;
 mod stack;
@@ -26,12 +27,11 @@ fn run(rt: &HostRuntime) -> Result<(), Stopped> {
     rt.stdin().read_to_end(&mut text)?;
     let mut script = Script::new(rt.alloc());
     let ended = script.read(rt.alloc(), &text);
-    match script.setup() {
-        None => {}
-        Some(setup) => match setup.kind {
+    if let Some(setup) = script.setup() {
+        match setup.kind {
             Kind::Bench => play_over::<BenchKind>(rt, setup, script.steps())?,
             Kind::Keyed => play_over::<KeyedKind>(rt, setup, script.steps())?,
-        },
+        }
     }
     ended
 }

@@ -1,51 +1,14 @@
 // A peer with its entity. Each call of it prints a line.
-use super::answer::{Answer, Gone};
-use super::call::{Call, Heard, Name, Request};
+use super::answer::Gone;
+use super::call::{Call, Heard, Request};
+use super::printer::Printer;
 use super::stack::Stack;
+use activation::Agreed;
 use entity::{Entity, Slip};
 use protocol::{Destroyed, Outcome, Refusal};
 use std::alloc::AllocError;
-use std::{fmt, io};
+use std::io;
 use suite::Suite;
-
-// Prints the lines of one peer.
-#[derive(Clone, Copy)]
-pub(super) struct Printer<'a> {
-    pub(super) rt: &'a HostRuntime,
-    pub(super) name: Name,
-}
-
-impl<'a> Printer<'a> {
-    pub(super) fn says(
-        &self,
-        what: &impl fmt::Display,
-        text: &impl fmt::Display,
-    ) -> io::Result<()> {
-        let name = self.name;
-        println!(self.rt; "{name} {what}: {text}")
-    }
-
-    fn answered<S: Suite>(
-        &self,
-        call: &Call,
-        entity: &Entity<S>,
-        answer: Result<Outcome, Refusal>,
-        bytes: &[u8],
-    ) -> io::Result<()> {
-        let alloc = self.rt.alloc();
-        let wrote = match bytes {
-            [] => String::from_str(alloc, "-")?,
-            _ => hex_text::encode(alloc, bytes)?,
-        };
-        let answer = Answer {
-            answer,
-            wrote: &wrote,
-            state: entity.state(),
-            number: entity.number(),
-        };
-        self.says(call, &answer)
-    }
-}
 
 pub(super) struct Peer<'a, S> {
     printer: Printer<'a>,
@@ -79,7 +42,7 @@ fn ask<S: Suite>(
     }
 }
 
-// Keeps a frame that was answered. None was if there is no byte.
+// Keeps the frame that was answered; there is none without a byte.
 fn keep(latest: &mut Vec<u8>, frame: &[u8]) -> Result<(), AllocError> {
     if frame.is_empty() {
         return Ok(());
@@ -96,10 +59,16 @@ fn put_away<S: Stack>(entity: Entity<S>) -> Destroyed {
 }
 
 impl<'a, S: Stack> Peer<'a, S> {
-    pub(super) fn new(printer: Printer<'a>, entity: Option<Entity<S>>) -> Peer<'a, S> {
+    // A peer whose suite stands over that root, with that many further keys where it has a quota.
+    pub(super) fn new(
+        printer: Printer<'a>,
+        activation: Option<Agreed>,
+        root: [u8; 16],
+        keys: u32,
+    ) -> Peer<'a, S> {
         Peer {
             printer,
-            entity,
+            entity: activation.map(|agreed| Entity::new(agreed, S::put_up(root, keys))),
             latest: Vec::new(printer.rt.alloc()),
         }
     }
@@ -121,7 +90,7 @@ impl<'a, S: Stack> Peer<'a, S> {
     }
 
     // Makes a call, for which the other peer's latest frame is at hand.
-    pub(super) fn take(&mut self, call: &Call, heard: &[u8]) -> io::Result<()> {
+    pub(super) fn play(&mut self, call: &Call, heard: &[u8]) -> io::Result<()> {
         let printer = self.printer;
         let alloc = printer.rt.alloc();
         match (call, &mut self.entity) {

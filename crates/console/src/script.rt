@@ -42,10 +42,10 @@ impl Script {
             return Ok(());
         }
         let line = str::from_utf8(line).map_err(|_| Unreadable::NotText)?;
-        self.take(heap, &words(heap, line)?)
+        self.read_words(heap, &words(heap, line)?)
     }
 
-    fn take(&mut self, heap: Global, words: &[&str]) -> Result<(), Unreadable> {
+    fn read_words(&mut self, heap: Global, words: &[&str]) -> Result<(), Unreadable> {
         match (words, &mut self.setup) {
             ([], _) => Ok(()),
             (["suite", kind], None) => {
@@ -54,7 +54,7 @@ impl Script {
             }
             (["suite", ..], _) | (_, None) => Err(Unreadable::SuiteFirst),
             (["layer" | "root" | "sec", ..], Some(setup)) if self.steps.is_empty() => {
-                setup.take(heap, words)
+                setup.set(heap, words)
             }
             (["layer" | "root" | "sec", ..], _) => Err(Unreadable::SetUpLate),
             _ => {

@@ -82,12 +82,18 @@ impl Setup {
     }
 
     // Takes a set-up line that comes after that of the suite.
-    pub(super) fn take(&mut self, heap: Global, words: &[&str]) -> Result<(), Unreadable> {
+    pub(super) fn set(&mut self, heap: Global, words: &[&str]) -> Result<(), Unreadable> {
         match words {
             ["layer", "quota", keys] => self.layers = self.layers.with_quota(count(keys)?)?,
             ["layer", "ledger"] => self.layers = self.layers.with_ledger()?,
-            ["root", peer, value] => self.side(Name::read(peer)?).root = root(heap, value)?,
-            ["sec", peer, value] => self.side(Name::read(peer)?).sec = byte(heap, value)?,
+            ["root", peer, value] => {
+                let side = self.side(Name::read(peer)?);
+                side.root = root(heap, value)?;
+            }
+            ["sec", peer, value] => {
+                let side = self.side(Name::read(peer)?);
+                side.sec = byte(heap, value)?;
+            }
             _ => return Err(Unreadable::NoSuchLine),
         }
         Ok(())

@@ -13,10 +13,10 @@ pub enum Unreadable {
     NotText,
     #[error("{0}")]
     Hex(#[from] HexError),
-    #[error("not as many bytes as there are to be")]
-    ByteCount,
-    #[error("not a number, or too large")]
-    Number,
+    #[error("not {0} bytes")]
+    ByteCount(usize),
+    #[error("not a number from 0 to {0}")]
+    Number(u32),
     #[error("the suite comes first, and once")]
     SuiteFirst,
     #[error("that layer stands already")]

@@ -1,11 +1,11 @@
 // Two peers are set up, and take their turns.
 use super::call::{Name, Step};
-use super::peer::{Peer, Printer};
+use super::peer::Peer;
+use super::printer::Printer;
 use super::setup::{Layers, Setup, Side};
 use super::stack::Stack;
 use super::stopped::Stopped;
 use activation::{Agreed, Offered, Refused};
-use entity::Entity;
 use ledger::Ledger;
 use quota::Quota;
 use std::io;
@@ -18,11 +18,15 @@ pub(super) fn play_over<K: Kind>(
     steps: &[Step],
 ) -> Result<(), Stopped> {
     match setup.layers {
-        Layers::Bare => play::<SuiteOf<K>>(rt, setup, 0, steps),
-        Layers::Quota(keys) => play::<Quota<SuiteOf<K>>>(rt, setup, keys, steps),
-        Layers::Ledger => play::<Ledger<SuiteOf<K>>>(rt, setup, 0, steps),
-        Layers::QuotaOverLedger(keys) => play::<Quota<Ledger<SuiteOf<K>>>>(rt, setup, keys, steps),
-        Layers::LedgerOverQuota(keys) => play::<Ledger<Quota<SuiteOf<K>>>>(rt, setup, keys, steps),
+        Layers::Bare => play_with::<SuiteOf<K>>(rt, setup, 0, steps),
+        Layers::Quota(keys) => play_with::<Quota<SuiteOf<K>>>(rt, setup, keys, steps),
+        Layers::Ledger => play_with::<Ledger<SuiteOf<K>>>(rt, setup, 0, steps),
+        Layers::QuotaOverLedger(keys) => play_with::<Quota<Ledger<SuiteOf<K>>>>(
+            rt, setup, keys, steps,
+        ),
+        Layers::LedgerOverQuota(keys) => play_with::<Ledger<Quota<SuiteOf<K>>>>(
+            rt, setup, keys, steps,
+        ),
     }
 }
 
@@ -44,15 +48,15 @@ fn activate(printer: Printer<'_>, own: Side, other: Side) -> io::Result<Option<A
 fn turns<S: Stack>(steps: &[Step], a: &mut Peer<S>, b: &mut Peer<S>) -> io::Result<()> {
     for step in steps {
         match step.peer {
-            Name::A => a.take(&step.call, b.latest())?,
-            Name::B => b.take(&step.call, a.latest())?,
+            Name::A => a.play(&step.call, b.latest())?,
+            Name::B => b.play(&step.call, a.latest())?,
         }
     }
     Ok(())
 }
 
 // Where there is no call, there is no peer either.
-fn play<S: Stack>(
+fn play_with<S: Stack>(
     rt: &HostRuntime,
     setup: Setup,
     keys: u32,
@@ -62,20 +66,11 @@ fn play<S: Stack>(
         return Ok(());
     }
     let Setup { a, b, .. } = setup;
-    let (one, other) = (Printer { rt, name: Name::A }, Printer { rt, name: Name::B });
+    let one = Printer { rt, name: Name::A };
+    let other = Printer { rt, name: Name::B };
     let agreed = (activate(one, a, b)?, activate(other, b, a)?);
-    let mut first = Peer::new(
-        one,
-        agreed
-            .0
-            .map(|agreed| Entity::new(agreed, S::put_up(a.root, keys))),
-    );
-    let mut second = Peer::new(
-        other,
-        agreed
-            .1
-            .map(|agreed| Entity::new(agreed, S::put_up(b.root, keys))),
-    );
+    let mut first = Peer::<S>::new(one, agreed.0, a.root, keys);
+    let mut second = Peer::<S>::new(other, agreed.1, b.root, keys);
     let result = turns(steps, &mut first, &mut second);
     first.end();
     second.end();

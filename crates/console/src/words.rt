@@ -3,7 +3,7 @@ use super::stopped::Unreadable;
 use std::alloc::{AllocError, Global};
 
 // The longest buffer that a call may be given.
-const MAX_SIZE: usize = 4096;
+const MAX_SIZE: u32 = 4096;
 
 // The words of a line, which are parted by blanks.
 pub(super) fn words<'a>(heap: Global, line: &'a str) -> Result<Vec<&'a str>, AllocError> {
@@ -22,7 +22,7 @@ fn array<const N: usize>(heap: Global, word: &str) -> Result<[u8; N], Unreadable
     bytes(heap, word)?
         .as_array::<N>()
         .copied()
-        .ok_or(Unreadable::ByteCount)
+        .ok_or(Unreadable::ByteCount(N))
 }
 
 pub(super) fn byte(heap: Global, word: &str) -> Result<u8, Unreadable> {
@@ -34,14 +34,18 @@ pub(super) fn root(heap: Global, word: &str) -> Result<[u8; 16], Unreadable> {
     array::<16>(heap, word)
 }
 
+fn number(word: &str, most: u32) -> Result<u32, Unreadable> {
+    match word.parse::<u32>() {
+        Ok(number) if number <= most => Ok(number),
+        _ => Err(Unreadable::Number(most)),
+    }
+}
+
 pub(super) fn count(word: &str) -> Result<u32, Unreadable> {
-    word.parse::<u32>().map_err(|_| Unreadable::Number)
+    number(word, u32::MAX)
 }
 
 // The length of a buffer.
 pub(super) fn size(word: &str) -> Result<usize, Unreadable> {
-    match word.parse::<usize>() {
-        Ok(size) if size <= MAX_SIZE => Ok(size),
-        _ => Err(Unreadable::Number),
-    }
+    Ok(number(word, MAX_SIZE)? as usize)
 }
