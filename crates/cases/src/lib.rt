@@ -6,5 +6,4 @@ ghost use Rattle.cases.specs.Cases.{Cases};
 // The worked cases follow from the definitions.
 pub fn cases_stand()
     ensures { Cases }
-{
-}
+{}
