@@ -337,7 +337,7 @@ def check(folder):
     if "logic=not-proved" not in said:
         return "not compiled" if "error[" in said else "not judged", next(iter(re.findall(r".*error.*", said)), said[-200:])[:160]
     told = [line for line in said.splitlines() if re.match(r"(note: )?\S+:\d+:\d+: ", line) or ": no proof: " in line]
-    told = [line for line in told if not re.search(GONE, line)]
+    told = [line for line in told if not re.search(GONE, line) and "which is not proved" not in line]
     return ("refused", told[0][:160]) if told else ("not judged", "only a proof file names what is gone")
 
 
