@@ -22,7 +22,7 @@ pub(super) struct Frame {
 }
 
 impl Frame {
-    // Cut at the buffer's length: that it is within follows from what was written, by a lemma that a program need not carry.
+    // Cut at the buffer's end: each call promises that its length is within, but what is kept here does not carry that.
     pub(super) fn bytes(&self) -> &[u8] {
         &self.bytes[..self.length.min(MAX_FRAME)]
     }

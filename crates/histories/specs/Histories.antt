@@ -49,15 +49,6 @@ abbrev pub history : Scheme → Model → List Call → History
 history s m [] = []
 history s m (c ∷ before) = entered c (turn s (after s m before) c) ∷ history s m before
 
--- the same for calls in the order they are made, with what came before
-abbrev pub finally : Scheme → Model → List Call → Model
-finally s m [] = m
-finally s m (c ∷ later) = finally s (turn s m c).model later
-
-abbrev pub journal : Scheme → Model → History → List Call → History
-journal s m past [] = past
-journal s m past (c ∷ later) = journal s (turn s m c).model (entered c (turn s m c) ∷ past) later
-
 -- Keys reported, the oldest first.
 
 -- a serial in an outcome; 0 is none

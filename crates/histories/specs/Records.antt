@@ -1,11 +1,17 @@
 -- The records of a history, session by session.
-use Rattle.std.specs.Prelude.{◌≡◌, ℕ, true, cond, ◌&&◌, ◌⊎◌, List, [], ◌∷◌, ◌++◌, map, ◌==◌}
+use Rattle.std.specs.Prelude.{◌≡◌, ℕ, true, cond, ◌&&◌, ◌⊎◌, List, [], ◌∷◌, ◌++◌, map, Result, ◌==◌}
+use Rattle.protocol.specs.declared.outcomes.Outcome.{Outcome}
+use Rattle.protocol.specs.declared.refusals.Refusal.{Refusal}
 use Rattle.histories.specs.Histories.{Entry, History, started_by, destroyed_in, member, Runs, sent_in, handing}
+
+-- the session that runs after a call, by its answer and the session that ran before: 0 for none
+abbrev pub next_session : ℕ → Result Outcome Refusal → ℕ
+next_session n answer = cond (started_by answer == 0) (cond (member n (destroyed_in answer)) 0 n) (started_by answer)
 
 -- the link key of the session that runs after a history, 0 where none does
 abbrev pub link_in : History → ℕ
 link_in [] = 0
-link_in (e ∷ h) = cond (started_by e.answer == 0) (cond (member (link_in h) (destroyed_in e.answer)) 0 (link_in h)) (started_by e.answer)
+link_in (e ∷ h) = next_session (link_in h) e.answer
 
 -- after the history the link session with link key n is over, and these calls were made in it; the last reports the link key destroyed
 pub data Over (n : ℕ) : History → History → Type 0 where

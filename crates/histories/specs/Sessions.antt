@@ -43,9 +43,9 @@ In x [] = ⊥
 In x (y ∷ ys) = (x ≡ y) ⊎ In x ys
 
 -- a frame with SEP 14 is one of these
-abbrev pub copy_of : List (List ℕ) → List ℕ → Type 0
-copy_of copies [] = Unit {0}
-copy_of copies (b ∷ rest) = b ≡ 0x14 → In (b ∷ rest) copies
+abbrev pub CopyOf : List (List ℕ) → List ℕ → Type 0
+CopyOf copies [] = Unit {0}
+CopyOf copies (b ∷ rest) = b ≡ 0x14 → In (b ∷ rest) copies
 
 abbrev pub CopyIn : List (List ℕ) → Call → Type 0
 CopyIn copies (invoke service pid seed room) = Unit {0}
@@ -53,7 +53,7 @@ CopyIn copies (send plain room) = Unit {0}
 CopyIn copies (retrieve_data room) = Unit {0}
 CopyIn copies (retrieve_secret room) = Unit {0}
 CopyIn copies (terminate room) = Unit {0}
-CopyIn copies (frame bytes seed room) = copy_of copies bytes
+CopyIn copies (frame bytes seed room) = CopyOf copies bytes
 CopyIn copies release = Unit {0}
 
 -- every ENC that the calls were given is one of these

@@ -14,5 +14,4 @@ pub mod Runs
 pub mod Askings
 pub mod Keeping
 pub mod Pairs
-pub mod Journals
 pub mod Whole

@@ -25,7 +25,7 @@ use Rattle.protocol.specs.Models.{Model}
 use Rattle.protocol.specs.Steps.{Step, fails, unless, moved, agree_fault, faulty, agreement, link_value, verified, good, opened_record, is_empty, record_length, sequenced, same_service, in_session, on_act_req, on_act_res, on_vfy_req, on_vfy_res, on_enc, entered, linked, confirmed, check_value, by_state, said_by}
 use Rattle.protocol.specs.Calls.{Call, frame, settle, blocked, admitted, taken}
 use Rattle.histories.specs.Histories.{listed}
-use Rattle.histories.specs.Sessions.{In, CopyIn, copy_of}
+use Rattle.histories.specs.Sessions.{In, CopyIn, CopyOf}
 use Rattle.promises.proofs.Cases.{both, clash}
 use Rattle.promises.proofs.Forms.{Base, One, Two, none_live, one_live, two_live, made_one, made_two}
 use Rattle.promises.proofs.Ledgers.{takes, other}
@@ -203,7 +203,7 @@ module _ (s : Scheme) (law : Lawful s) (bytes seed : List ℕ) (room sep : ℕ) 
       clash _ free full)
   hears_enc payload r {role} {old} [] two lo hi free =
       does_in_session s law _ sep service _ (at_sch two lo hi)
-      (λ same. does_enc s law bytes seed room sep role old two lo hi payload (λ copies f. subst (copy_of copies) (sym (record_bytes payload r same)) f refl))
+      (λ same. does_enc s law bytes seed room sep role old two lo hi payload (λ copies f. subst (CopyOf copies) (sym (record_bytes payload r same)) f refl))
 
   hears_link : (said : Said) → Read said → {root : List ℕ} {last n : ℕ} {v w : List ℕ} {role : Role} {old : List ℕ} {number : ℕ} (held : List ℕ) → Two root last n v w → s.first ≤ number → number ≤ s.final
       → let m = in_link (two_live root last n v w) role old number held n in blocked m (record { service = service; said = said }) ≡ false → Hears m said

@@ -1,5 +1,5 @@
 -- What a call answers tells how much it wrote.
-use Rattle.std.proofs.Common.{◌≡◌, ℕ, List, [], length, take, Ok, Err, Result, sym, ap, ◌∙◌}
+use Rattle.std.proofs.Common.{◌≡◌, ℕ, List, take, Ok, Err, Result, sym, ap, ◌∙◌}
 use Rattle.buffers.specs.Buffers.{over}
 use Rattle.buffers.proofs.OverLaws.{take-over}
 use Rattle.protocol.specs.declared.outcomes.Outcome.{Outcome}

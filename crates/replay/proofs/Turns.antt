@@ -1,5 +1,5 @@
 -- One more call of a log.
-use Rattle.std.proofs.Common.{◌≡◌, ℕ, ◌+◌, ◌<◌, ◌≤◌, List, [], ◌∷◌, ◌++◌, length, take, set, get_or, map, reverse, refl, sym, ap, ◌∙◌, subst, append_assoc, append-nil, arith, length-take, Result}
+use Rattle.std.proofs.Common.{◌≡◌, ℕ, ◌+◌, ◌<◌, List, [], ◌∷◌, ◌++◌, length, take, set, get_or, reverse, refl, sym, ap, ◌∙◌, append_assoc, append-nil, arith, length-take, Result}
 use Rattle.std.proofs.lemmas.List.{take_more, take_more_set, reverse-append, map-append, length-map}
 use Rattle.protocol.specs.declared.outcomes.Outcome.{Outcome}
 use Rattle.protocol.specs.declared.refusals.Refusal.{Refusal}
@@ -8,11 +8,11 @@ use Rattle.protocol.specs.Models.{Model}
 use Rattle.suite.specs.Schemes.{Scheme}
 use Rattle.histories.specs.Histories.{entered, after, history}
 use Rattle.histories.specs.Histories as h
-use Rattle.histories.specs.Records.{Charge, charges, link_in, charged_in}
+use Rattle.histories.specs.Records.{Charge, charges, link_in, next_session, charged_in}
 use Rattle.replay.specs.declared.call.Call.{Call as Logged}
 use Rattle.replay.specs.declared.entry.Entry.{Entry}
 use Rattle.replay.specs.Called.{called, calls_of}
-use Rattle.replay.specs.Entries.{told, told_each, told_history, told_records, charge_of, next_session}
+use Rattle.replay.specs.Entries.{told, told_each, told_history, told_records, charge_of}
 
 pub calls_more : (log : List Logged) (i : ℕ) (x : Logged) → i < length log → reverse (calls_of (take (i + 1) log)) ≡ called (get_or log i x) ∷ reverse (calls_of (take i log))
 calls_more log i x h =

@@ -1,5 +1,5 @@
 -- The entries of a transcript, as the definitions have them.
-use Rattle.std.specs.Prelude.{ℕ, ◌≤◌, cond, List, length, [], ◌∷◌, ◌++◌, reverse, take, Some, None, Ok, Err, Option, Result, ◌==◌}
+use Rattle.std.specs.Prelude.{ℕ, ◌≤◌, List, length, [], ◌∷◌, ◌++◌, reverse, take, Some, None, Ok, Err, Option, Result}
 use Rattle.protocol.specs.Calls.{Call, invoke, send, retrieve_data, retrieve_secret, terminate, frame, release}
 use Rattle.protocol.specs.declared.outcomes.Outcome.{Outcome}
 use Rattle.protocol.specs.declared.refusals.Refusal.{Refusal}
@@ -48,10 +48,6 @@ charge_of (Some x) = record { session = x.session; way = way_of x.way; plain = b
 abbrev pub told_records : List Entry → List Charge
 told_records [] = []
 told_records (e ∷ es) = charge_of e.record ++ told_records es
-
--- the session that runs after a call, by its answer and the session that ran before
-abbrev pub next_session : ℕ → Result Outcome Refusal → ℕ
-next_session n answer = cond (h.started_by answer == 0) (cond (h.member n (h.destroyed_in answer)) 0 n) (h.started_by answer)
 
 -- a send that is answered had data that a record holds
 abbrev pub FitsSend : Call → Result Outcome Refusal → Type 0

@@ -1,7 +1,7 @@
 ghost use Rattle.std.specs.Prelude.{◌≡◌, ◌≤◌, length, Ok, IfOk};
-ghost use Rattle.histories.specs.Records.{charged_in};
+ghost use Rattle.histories.specs.Records.{charged_in, next_session};
 ghost use Rattle.replay.specs.Called.{called};
-ghost use Rattle.replay.specs.Entries.{bytes_of, charge_of, told, next_session, FitsSend};
+ghost use Rattle.replay.specs.Entries.{bytes_of, charge_of, told, FitsSend};
 
 use super::call::Call;
 use super::entry::{Entry, Record, Way, Written};

@@ -1,7 +1,6 @@
-use Rattle.std.proofs.Common.{◌≡◌, ◌+◌, ◌<◌, length, take, reverse, arith, rules}
+use Rattle.std.proofs.Common.{◌+◌, ◌<◌, length, take, reverse, arith, rules}
 use Rattle.entity.specs.Views.{view}
-use Rattle.replay.specs.Called.{called, calls_of}
-use Rattle.replay.specs.Entries.{told}
+use Rattle.replay.specs.Called.{calls_of}
 use Rattle.replay.proofs.Turns.{calls_more, told_more, records_more, model_more, entry_is, history_more, charges_more, session_more}
 use Rattle.replay.proofs.play.play.Goals as goal
 
