@@ -5,7 +5,7 @@ use Rattle.suite.specs.declared.types.KeyKind.{KeyKind}
 use Rattle.suite.specs.declared.types.KeyKind.TheVariants.{SharedSecret, LinkKey}
 use Rattle.suite.specs.declared.types.Denial.{Denial}
 use Rattle.suite.specs.declared.types.Denial.TheVariants.{BadOffer, Spent, Unfit, Unknown}
-use Rattle.suite.specs.Meanings.{Meaning, value_in, is_live, without}
+use Rattle.suite.specs.Meanings.{Meaning, keyring_of, value_in, is_live, without}
 use Rattle.suite.specs.Schemes.{Scheme, ok_role}
 
 -- A call that makes a key, by the key's value: the serial that it answers, and the meaning after.
@@ -46,26 +46,26 @@ known f (Some v) = f v
 -- The calls. Room is the length of the buffer that a call may write.
 
 abbrev pub offered : Scheme → Meaning → List ℕ → ℕ → Result (List ℕ) Denial
-offered s m seed room = cond (wrong_seed seed || no_room room) (Err Unfit) (Ok (s.offer_of m.root seed))
+offered s m seed room = cond (wrong_seed seed || no_room room) (Err Unfit) (Ok (s.offer_of (keyring_of m) seed))
 
 -- the value of the shared secret
 abbrev pub agreed : Scheme → Meaning → List ℕ → List ℕ → ℕ → Result (List ℕ) Denial
 agreed s m seed offer role =
     cond (wrong_seed seed || not (ok_role role)) (Err Unfit)
-    (cond (not (s.fit_of m.root offer)) (Err BadOffer)
+    (cond (not (s.fit_of (keyring_of m) offer)) (Err BadOffer)
     (cond (spent m) (Err Spent)
-    (Ok (s.secret_of m.root (m.newest + 1) role seed offer))))
+    (Ok (s.secret_of (keyring_of m) role seed offer))))
 
 -- the value of the link key
 abbrev pub derived : Scheme → Meaning → ℕ → Result (List ℕ) Denial
 derived s m key =
-    known (λ v. cond (spent m) (Err Spent) (Ok (s.link_of m.root key v (m.newest + 1))))
+    known (λ v. cond (spent m) (Err Spent) (Ok (s.link_of (keyring_of m) key v)))
     (value_in m.live SharedSecret key)
 
 abbrev pub checked : Scheme → Meaning → ℕ → ℕ → ℕ → Result (List ℕ) Denial
 checked s m key role room =
     cond (not (ok_role role) || no_room room) (Err Unfit)
-    (known (λ v. Ok (s.check_of m.root key v role)) (value_in m.live SharedSecret key))
+    (known (λ v. Ok (s.check_of (keyring_of m) key v role)) (value_in m.live SharedSecret key))
 
 abbrev pub revealed : Meaning → ℕ → ℕ → Result (List ℕ) Denial
 revealed m key room = cond (nat_lt room 16) (Err Unfit) (known Ok (value_in m.live SharedSecret key))
@@ -73,13 +73,13 @@ revealed m key room = cond (nat_lt room 16) (Err Unfit) (known Ok (value_in m.li
 abbrev pub sealed : Scheme → Meaning → ℕ → ℕ → ℕ → List ℕ → ℕ → Result (List ℕ) Denial
 sealed s m key role n plain room =
     cond (not (ok_role role) || nat_lt 200 (length plain) || nat_lt 16777215 n || no_room room) (Err Unfit)
-    (known (λ v. Ok (s.seal_of m.root key v role n plain)) (value_in m.live LinkKey key))
+    (known (λ v. Ok (s.seal_of (keyring_of m) key v role n plain)) (value_in m.live LinkKey key))
 
 -- role, number and data of a payload; none if it is not good
 abbrev pub opened : Scheme → Meaning → ℕ → List ℕ → ℕ → Result (Option (ℕ × ℕ × List ℕ)) Denial
 opened s m key payload room =
     cond (nat_lt 254 (length payload) || no_room room) (Err Unfit)
-    (known (λ v. Ok (s.open_of m.root key v payload)) (value_in m.live LinkKey key))
+    (known (λ v. Ok (s.open_of (keyring_of m) key v payload)) (value_in m.live LinkKey key))
 
 -- role, number and data length together
 abbrev pub open_answer : Result (Option (ℕ × ℕ × List ℕ)) Denial → Result (Option (ℕ × ℕ × ℕ)) Denial

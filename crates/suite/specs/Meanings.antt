@@ -24,6 +24,15 @@ pub record Meaning : Type 0 where
   pub newest : ℕ
   pub live : List Key
 
+-- What the functions of a kind of suite see: all that the suite means but its last serial, which layers change.
+pub record Keyring : Type 0 where
+  pub root : List ℕ
+  pub newest : ℕ
+  pub live : List Key
+
+abbrev pub keyring_of : Meaning → Keyring
+keyring_of m = record { root = m.root; newest = m.newest; live = m.live }
+
 -- the same meaning with another last serial
 abbrev pub with_last : Meaning → ℕ → Meaning
 with_last m last = record { root = m.root; last = last; newest = m.newest; live = m.live }
@@ -50,11 +59,15 @@ abbrev pub Apart : List Key → Type 0
 Apart [] = Unit {0}
 Apart (k ∷ ks) = (is_live ks k.serial ≡ false) × Apart ks
 
+-- root and values of sixteen bytes, serials from 1 to the newest, and no two keys with one serial
+pub record Formed (k : Keyring) : Type 0 where
+  pub root : Bytes16 k.root
+  pub values : AllByRecursion (λ j. Bytes16 j.value) k.live
+  pub serials : AllByRecursion (λ j. (1 ≤ j.serial) × (j.serial ≤ k.newest)) k.live
+  pub apart : Apart k.live
+
 -- what every suite owes at every moment
 pub record WellFormed (m : Meaning) : Type 0 where
-  pub root : Bytes16 m.root
-  pub last : m.last < 2 ^ 32
+  pub keyring : Formed (keyring_of m)
   pub newest : m.newest ≤ m.last
-  pub values : AllByRecursion (λ k. Bytes16 k.value) m.live
-  pub serials : AllByRecursion (λ k. (1 ≤ k.serial) × (k.serial ≤ m.newest)) m.live
-  pub apart : Apart m.live
+  pub last : m.last < 2 ^ 32

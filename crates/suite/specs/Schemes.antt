@@ -2,11 +2,11 @@
 use Rattle.std.specs.Prelude.{◌≡◌, ℕ, ◌+◌, ◌<◌, ◌≤◌, Bool, true, ◌||◌, List, length, Some, Option, ◌==◌}
 use Rattle.suite.specs.declared.types.Role.TheVariants.{Sender, Recipient}
 use Rattle.suite.specs.declared.types.KindNumbers.{KindNumbers}
-use Rattle.suite.specs.Meanings.{Bytes, Bytes16}
+use Rattle.suite.specs.Meanings.{Bytes, Bytes16, Keyring, Formed}
 use Rattle.suite.specs.Numbers.{role_byte}
 
--- The numbers and functions of a kind. What it computes with a key may depend on the root, on the key's serial and on its value;
--- for a key that is being made, the serial is the one that it gets.
+-- The numbers and functions of a kind. What it computes may depend on all that the suite means but the last serial, and on the serial and the
+-- value of the key that is used; a key that is being made gets the serial after the newest.
 pub record Scheme : Type 0 where
   pub pid : ℕ
   pub offer_length : ℕ
@@ -14,20 +14,20 @@ pub record Scheme : Type 0 where
   pub overhead : ℕ
   pub first : ℕ
   pub final : ℕ
-  -- root, seed
-  pub offer_of : List ℕ → List ℕ → List ℕ
-  -- root, the peer's offer
-  pub fit_of : List ℕ → List ℕ → Bool
-  -- root, serial of the shared secret, own role, own seed, the peer's offer
-  pub secret_of : List ℕ → ℕ → ℕ → List ℕ → List ℕ → List ℕ
-  -- root, serial and value of the shared secret, role
-  pub check_of : List ℕ → ℕ → List ℕ → ℕ → List ℕ
-  -- root, serial and value of the shared secret, serial of the link key
-  pub link_of : List ℕ → ℕ → List ℕ → ℕ → List ℕ
-  -- root, serial and value of the link key, role, number, data
-  pub seal_of : List ℕ → ℕ → List ℕ → ℕ → ℕ → List ℕ → List ℕ
-  -- root, serial and value of the link key, payload; role, number and data, or none if it is not good
-  pub open_of : List ℕ → ℕ → List ℕ → List ℕ → Option (ℕ × ℕ × List ℕ)
+  -- seed
+  pub offer_of : Keyring → List ℕ → List ℕ
+  -- the peer's offer
+  pub fit_of : Keyring → List ℕ → Bool
+  -- own role, own seed, the peer's offer
+  pub secret_of : Keyring → ℕ → List ℕ → List ℕ → List ℕ
+  -- serial and value of the shared secret, role
+  pub check_of : Keyring → ℕ → List ℕ → ℕ → List ℕ
+  -- serial and value of the shared secret
+  pub link_of : Keyring → ℕ → List ℕ → List ℕ
+  -- serial and value of the link key, role, number, data
+  pub seal_of : Keyring → ℕ → List ℕ → ℕ → ℕ → List ℕ → List ℕ
+  -- serial and value of the link key, payload; role, number and data, or none if it is not good
+  pub open_of : Keyring → ℕ → List ℕ → List ℕ → Option (ℕ × ℕ × List ℕ)
 
 -- the numbers of a kind, as the code tells them
 abbrev pub numbers_of : Scheme → KindNumbers
@@ -51,6 +51,11 @@ pub record Sealable (s : Scheme) (n : ℕ) (plain : List ℕ) : Type 0 where
   pub low : s.first ≤ n
   pub high : n ≤ s.final
 
+-- a keyring under that root
+pub record Under (root : List ℕ) (k : Keyring) : Type 0 where
+  pub formed : Formed k
+  pub same : k.root ≡ root
+
 pub record Lawful (s : Scheme) : Type 0 where
   -- the numbers
   pub pid_byte : s.pid < 256
@@ -60,23 +65,23 @@ pub record Lawful (s : Scheme) : Type 0 where
   pub first_below : s.first < s.final
   pub final_bound : s.final ≤ 16777215
   -- lengths, and that bytes are bytes
-  pub offer_long : (root seed : List ℕ) → Bytes16 root → Bytes16 seed → length (s.offer_of root seed) ≡ s.offer_length
-  pub offer_bytes : (root seed : List ℕ) → Bytes16 root → Bytes16 seed → Bytes (s.offer_of root seed)
-  pub secret_is : (root seed offer : List ℕ) (serial role : ℕ) → Bytes16 root → Bytes16 seed → Bytes offer → ok_role role ≡ true → s.fit_of root offer ≡ true → Bytes16 (s.secret_of root serial role seed offer)
-  pub check_long : (root value : List ℕ) (serial role : ℕ) → Bytes16 root → Bytes16 value → ok_role role ≡ true → length (s.check_of root serial value role) ≡ s.check_length
-  pub check_bytes : (root value : List ℕ) (serial role : ℕ) → Bytes16 root → Bytes16 value → ok_role role ≡ true → Bytes (s.check_of root serial value role)
-  pub link_is : (root value : List ℕ) (serial link : ℕ) → Bytes16 root → Bytes16 value → Bytes16 (s.link_of root serial value link)
-  pub seal_bytes : (root value plain : List ℕ) (serial role n : ℕ) → Bytes16 root → Bytes16 value → ok_role role ≡ true → Sealable s n plain → Bytes (s.seal_of root serial value role n plain)
+  pub offer_long : (k : Keyring) (seed : List ℕ) → Formed k → Bytes16 seed → length (s.offer_of k seed) ≡ s.offer_length
+  pub offer_bytes : (k : Keyring) (seed : List ℕ) → Formed k → Bytes16 seed → Bytes (s.offer_of k seed)
+  pub secret_is : (k : Keyring) (seed offer : List ℕ) (role : ℕ) → Formed k → Bytes16 seed → Bytes offer → ok_role role ≡ true → s.fit_of k offer ≡ true → Bytes16 (s.secret_of k role seed offer)
+  pub check_long : (k : Keyring) (value : List ℕ) (serial role : ℕ) → Formed k → Bytes16 value → ok_role role ≡ true → length (s.check_of k serial value role) ≡ s.check_length
+  pub check_bytes : (k : Keyring) (value : List ℕ) (serial role : ℕ) → Formed k → Bytes16 value → ok_role role ≡ true → Bytes (s.check_of k serial value role)
+  pub link_is : (k : Keyring) (value : List ℕ) (serial : ℕ) → Formed k → Bytes16 value → Bytes16 (s.link_of k serial value)
+  pub seal_bytes : (k : Keyring) (value plain : List ℕ) (serial role n : ℕ) → Formed k → Bytes16 value → ok_role role ≡ true → Sealable s n plain → Bytes (s.seal_of k serial value role n plain)
   -- under one root each written offer is fit, and the two peers' agreements on each other's offers give equal values
-  pub fits : (root seed : List ℕ) → Bytes16 root → Bytes16 seed → s.fit_of root (s.offer_of root seed) ≡ true
-  pub agrees : (root one other : List ℕ) (serial serial' : ℕ) → Bytes16 root → Bytes16 one → Bytes16 other → s.secret_of root serial (role_byte Sender) one (s.offer_of root other) ≡ s.secret_of root serial' (role_byte Recipient) other (s.offer_of root one)
-  -- opening under an equal value gives back what was sealed, whatever the two roots and serials
-  pub opens : (root root' value plain : List ℕ) (serial serial' role n : ℕ) → Bytes16 root → Bytes16 root' → Bytes16 value → ok_role role ≡ true → Sealable s n plain → s.open_of root' serial' value (s.seal_of root serial value role n plain) ≡ Some (role, n, plain)
+  pub fits : (root : List ℕ) (k k' : Keyring) (seed : List ℕ) → Under root k → Under root k' → Bytes16 seed → s.fit_of k' (s.offer_of k seed) ≡ true
+  pub agrees : (root : List ℕ) (k k' j j' : Keyring) (one other : List ℕ) → Under root k → Under root k' → Under root j → Under root j' → Bytes16 one → Bytes16 other → s.secret_of k (role_byte Sender) one (s.offer_of j' other) ≡ s.secret_of k' (role_byte Recipient) other (s.offer_of j one)
+  -- opening under an equal value gives back what was sealed, whatever else the two suites mean and whatever the two serials
+  pub opens : (k k' : Keyring) (value plain : List ℕ) (serial serial' role n : ℕ) → Formed k → Formed k' → Bytes16 value → ok_role role ≡ true → Sealable s n plain → s.open_of k' serial' value (s.seal_of k serial value role n plain) ≡ Some (role, n, plain)
   -- a payload is as long as its data and the overhead, whatever data and number
-  pub seal_long : (root value plain : List ℕ) (serial role n : ℕ) → Bytes16 root → Bytes16 value → ok_role role ≡ true → length (s.seal_of root serial value role n plain) ≡ length plain + s.overhead
+  pub seal_long : (k : Keyring) (value plain : List ℕ) (serial role n : ℕ) → Formed k → Bytes16 value → ok_role role ≡ true → length (s.seal_of k serial value role n plain) ≡ length plain + s.overhead
 
--- Two suites are of one kind where first number, seal and open mean the same.
+-- Two suites are of one kind where first number, seal and open mean the same: seal, of what both can seal.
 pub record OneKind (s t : Scheme) : Type 0 where
   pub firsts : s.first ≡ t.first
-  pub seals : (root value plain : List ℕ) (serial role n : ℕ) → Bytes16 root → Bytes16 value → ok_role role ≡ true → Sealable s n plain → s.seal_of root serial value role n plain ≡ t.seal_of root serial value role n plain
-  pub opens : (root value payload : List ℕ) (serial : ℕ) → Bytes16 root → Bytes16 value → Bytes payload → s.open_of root serial value payload ≡ t.open_of root serial value payload
+  pub seals : (k : Keyring) (value plain : List ℕ) (serial role n : ℕ) → Formed k → Bytes16 value → ok_role role ≡ true → Sealable s n plain → Sealable t n plain → s.seal_of k serial value role n plain ≡ t.seal_of k serial value role n plain
+  pub opens : (k : Keyring) (value payload : List ℕ) (serial : ℕ) → Formed k → Bytes16 value → Bytes payload → s.open_of k serial value payload ≡ t.open_of k serial value payload

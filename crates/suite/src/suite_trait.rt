@@ -1,7 +1,7 @@
 ghost use Rattle.std.specs.Prelude.{◌≡◌, length};
 ghost use Rattle.buffers.specs.Buffers.{length_answer, written};
 ghost use Rattle.suite.specs.declared.types.KeyKind.TheVariants.{SharedSecret, LinkKey};
-ghost use Rattle.suite.specs.Meanings.{Meaning, WellFormed};
+ghost use Rattle.suite.specs.Meanings.{Meaning, WellFormed, keyring_of};
 ghost use Rattle.suite.specs.Schemes.{Scheme, Lawful, numbers_of};
 ghost use Rattle.suite.specs.Calls.{offered, agreed, derived, checked, revealed, sealed, opened, serial_answer, after_making, open_answer, open_written, destroy_answer, after_destroy};
 
@@ -27,7 +27,7 @@ pub trait Suite {
         ensures { result ≡ (meaning self.now).last };
 
     fn is_fit(&self, offer: &[u8]) -> bool
-        ensures { result ≡ scheme.fit_of (meaning self.now).root offer.now };
+        ensures { result ≡ scheme.fit_of (keyring_of (meaning self.now)) offer.now };
 
     // Writes the offer of a seed.
     fn offer(&self, seed: &[u8], out: &mut [u8]) -> Result<usize, Denial>
