@@ -1,5 +1,5 @@
 -- What a suite means at one moment: its root, its serials and its live keys.
-use Rattle.std.specs.Prelude.{◌≡◌, ℕ, ◌^◌, ◌<◌, ◌≤◌, Bool, false, cond, ◌&&◌, ◌||◌, List, [], ◌∷◌, length, Some, None, Option, ◌==◌}
+use Rattle.std.specs.Prelude.{◌≡◌, ℕ, ◌^◌, ◌<◌, ◌≤◌, Bool, false, cond, ◌&&◌, ◌||◌, List, [], ◌∷◌, length, Some, None, Option, ◌==◌, unwrap_or}
 use Rattle.std.specs.List.{AllByRecursion}
 use Rattle.suite.specs.declared.types.KeyKind.{KeyKind}
 use Rattle.suite.specs.Numbers.{kind_number}
@@ -44,6 +44,10 @@ same_kind k j = kind_number k == kind_number j
 abbrev pub value_in : List Key → KeyKind → ℕ → Option (List ℕ)
 value_in [] kind n = None
 value_in (k ∷ ks) kind n = cond (k.serial == n && same_kind k.kind kind) (Some k.value) (value_in ks kind n)
+
+-- the same, and no bytes where there is no such key
+abbrev pub value_of : List Key → KeyKind → ℕ → List ℕ
+value_of ks kind n = unwrap_or (value_in ks kind n) []
 
 abbrev pub is_live : List Key → ℕ → Bool
 is_live [] n = false
