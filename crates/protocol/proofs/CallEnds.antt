@@ -1,10 +1,13 @@
 -- Every call ends as it should.
-use Rattle.std.proofs.Common.{◌≡◌, ℕ, Bool, true, false, cond, not, List, [], length, Some, None, Ok, Err, Result, refl, ap, arith}
+use Rattle.std.proofs.Common.{◌≡◌, ℕ, Bool, true, false, cond, not, eqb, List, [], length, Some, None, Ok, Err, Result, refl, ap, arith}
+use Rattle.std.proofs.lemmas.Bool.{cond_both, eqb-true}
 use Rattle.std.proofs.lemmas.Grind.{common_steps}
 use Rattle.frame.specs.declared.types.Service.{Service}
 use Rattle.frame.specs.declared.faults.CodecFault.{CodecFault}
 use Rattle.frame.specs.Frames.{Said, act_req, act_res, vfy_req, vfy_res, enc, tmn, error, Parts}
 use Rattle.frame.specs.Reading.{reading}
+use Rattle.suite.specs.Meanings.{Meaning, keyring_of, Formed, Apart, is_live}
+use Rattle.suite.proofs.KeyLaws.{taken_away, live-without, apart-without, none_zero}
 use Rattle.suite.specs.Schemes.{Scheme}
 use Rattle.suite.specs.Calls.{wrong_seed, no_room}
 use Rattle.protocol.specs.declared.states.State.{State}
@@ -19,30 +22,61 @@ use Rattle.protocol.specs.declared.refusals.Refusal.TheVariants as no
 use Rattle.protocol.specs.declared.faults.Fault.{Fault}
 use Rattle.protocol.specs.declared.faults.MachineFault.{MachineFault}
 use Rattle.protocol.specs.Numbers.{cause_code}
-use Rattle.protocol.specs.Models.{Model}
+use Rattle.protocol.specs.Models.{Model, Ancillary, without_key, idle, keys_of}
 use Rattle.protocol.specs.Steps.{Step, said_by, fails, ended_by, same_service, in_session, on_act_req, on_act_res, on_vfy_req, on_vfy_res, on_enc, by_state, heard}
 use Rattle.protocol.specs.Calls.{Call, refused, faulted, settled, error_service, error_payload, invoke, send, retrieve_data, retrieve_secret, terminate, frame, release, Turn, invoke_turn, send_turn, data_turn, secret_turn, terminate_turn, release_turn, taken, first_byte, admitted, frame_turn, turn}
 use Rattle.protocol.specs.Ends.{Ends, EveryCallEnds}
 
+-- by the cases of a test
+both : {A : Type 0} (b : Bool) (P : A → Type 0) {x y : A} → (b ≡ true → P x) → (b ≡ false → P y) → P (cond b x y)
+both b P {x} {y} f g = cond_both b x y P f g
+
 refused-ends : (m : Model) (r : Refusal) → Ends m (refused m r)
 refused-ends m r = record { refused = λ q e. (refl, refl); length = λ o e. absurd (cc); faulty = λ o f e q. absurd (cc) }
 
-faulted-ends : (m after : Model) (sep : ℕ) (f : MachineFault) → Ends m (faulted after sep f)
-faulted-ends m after sep f = record {
+-- Keys that are destroyed are live no more.
+
+none_left : (m : Meaning) (key n : ℕ) → is_live m.live n ≡ false → is_live (without_key m key).live n ≡ false
+none_left m key n h = both (eqb key 0) (λ (z : Meaning). is_live z.live n ≡ false) (λ _. h) (λ _. live-without m.live key n h)
+
+apart_left : (m : Meaning) (key : ℕ) → Apart m.live → Apart (without_key m key).live
+apart_left m key a = both (eqb key 0) (λ (z : Meaning). Apart z.live) (λ _. a) (λ _. apart-without m.live key a)
+
+key_gone : (m : Meaning) (key : ℕ) → Apart m.live → is_live m.live 0 ≡ false → is_live (without_key m key).live key ≡ false
+key_gone m key a z =
+    both (eqb key 0) (λ (w : Meaning). is_live w.live key ≡ false)
+    (λ e. let same : key ≡ 0 = eqb-true key 0 e in rw same z)
+    (λ _. taken_away m.live key a)
+
+keys_gone : (m : Model) → Formed (keyring_of m.means) → (is_live (idle m).means.live m.link ≡ false) × (is_live (idle m).means.live m.secret ≡ false)
+keys_gone m f =
+    let zero = none_zero m.means.live m.means.newest f.serials in
+    let first = without_key m.means m.link in (
+      none_left first m.secret m.link (key_gone m.means m.link f.apart zero),
+      key_gone first m.secret (apart_left m.means m.link f.apart) (none_left m.means m.link 0 zero),
+    )
+
+faulted-ends : (m : Model) (sep : ℕ) (f : MachineFault) → Ends m (faulted m sep f)
+faulted-ends m sep f = record {
   refused = λ r e. absurd (cc);
   length = λ o e. grind (arith, common_steps);
   faulty = λ o g e q. record {
     confirmation = confirms o e;
     idle = refl;
     cleared = record { seed = refl; number = refl; held = refl; secret = refl; link = refl };
-    reply = (error_service after.service sep f.state, ap (λ x. said_by (error_service after.service sep f.state) (error (error_payload (cause_code x.cause)))) (same o g e q));
+    destroyed = destroys o e;
+    gone = keys_gone m;
+    reply = (error_service m.service sep f.state, ap (λ x. said_by (error_service m.service sep f.state) (error (error_payload (cause_code x.cause)))) (same o g e q));
   };
 }
   where
-    confirms : (o : Outcome) → (faulted after sep f).answer ≡ Ok o → o.confirmation ≡ conf.Error
+    confirms : (o : Outcome) → (faulted m sep f).answer ≡ Ok o → o.confirmation ≡ conf.Error
     confirms o e = grind (arith, common_steps)
 
-    same : (o : Outcome) (g : Fault) → (faulted after sep f).answer ≡ Ok o → o.fault ≡ Some g → f ≡ g.machine
+    destroys : (o : Outcome) → (faulted m sep f).answer ≡ Ok o → o.destroyed ≡ keys_of m
+    destroys o e = grind (arith, common_steps)
+
+    same : (o : Outcome) (g : Fault) → (faulted m sep f).answer ≡ Ok o → o.fault ≡ Some g → f ≡ g.machine
     same o g e q = grind (arith, common_steps)
 
 -- a call that meets no fault
@@ -96,11 +130,11 @@ enc-tells : (s : Scheme) (m : Model) (payload : List ℕ) → Tells (on_enc s m 
 enc-tells s m payload = λ o e. grind (arith, common_steps)
 
 session-tells : (m : Model) (service : Service) (step : Step) → Tells step → Tells (in_session m service step)
-session-tells m service step h o e = both (not (same_service service m.service)) e
+session-tells m service step h o e = chosen (not (same_service service m.service)) e
   where
-    both : (b : Bool) → (cond b (fails m OtherService) step).answer ≡ Ok o → (o.length ≡ length (cond b (fails m OtherService) step).reply) × (o.fault ≡ None)
-    both true q = absurd (cc)
-    both false q = h o q
+    chosen : (b : Bool) → (cond b (fails m OtherService) step).answer ≡ Ok o → (o.length ≡ length (cond b (fails m OtherService) step).reply) × (o.fault ≡ None)
+    chosen true q = absurd (cc)
+    chosen false q = h o q
 
 ended-tells : (m : Model) (confirmation : Confirmation) → Tells (ended_by m confirmation)
 ended-tells m confirmation o e = grind (arith, common_steps)
@@ -108,41 +142,41 @@ ended-tells m confirmation o e = grind (arith, common_steps)
 fails-tells : (m : Model) (cause : Cause) → Tells (fails m cause)
 fails-tells m cause o e = absurd (cc)
 
-state-tells : (s : Scheme) (m : Model) (seed : List ℕ) (service : Service) (state : State) (said : Said) → Tells (by_state s m seed service state said)
-state-tells s m seed service state (error p) = ended-tells m conf.Error
-state-tells s m seed service st.Idle (act_req pid offer) = act_req-tells s m service pid offer seed
-state-tells s m seed service st.Select (act_res offer) = session-tells m service (on_act_res s m offer) (act_res-tells s m offer)
-state-tells s m seed service st.EstablishedSender (vfy_res check) = session-tells m service (on_vfy_res s m check) (vfy_res-tells s m check)
-state-tells s m seed service st.EstablishedRecipient (vfy_req check) = session-tells m service (on_vfy_req s m check) (vfy_req-tells s m check)
-state-tells s m seed service st.ConfirmedSse (tmn p) = session-tells m service (ended_by m conf.Terminated) (ended-tells m conf.Terminated)
-state-tells s m seed service st.ConfirmedSch (tmn p) = session-tells m service (ended_by m conf.Terminated) (ended-tells m conf.Terminated)
-state-tells s m seed service st.ConfirmedSch (enc payload) = session-tells m service (on_enc s m payload) (enc-tells s m payload)
-state-tells s m seed service state said = fails-tells m NotAllowed
+state-tells : (s : Scheme) (m : Model) (a : Ancillary) (service : Service) (state : State) (said : Said) → Tells (by_state s m a service state said)
+state-tells s m a service state (error p) = ended-tells m conf.Error
+state-tells s m a service st.Idle (act_req pid offer) = act_req-tells s m service pid offer a.seed
+state-tells s m a service st.Select (act_res offer) = session-tells m service (on_act_res s m offer) (act_res-tells s m offer)
+state-tells s m a service st.EstablishedSender (vfy_res check) = session-tells m service (on_vfy_res s m check) (vfy_res-tells s m check)
+state-tells s m a service st.EstablishedRecipient (vfy_req check) = session-tells m service (on_vfy_req s m check) (vfy_req-tells s m check)
+state-tells s m a service st.ConfirmedSse (tmn p) = session-tells m service (ended_by m conf.Terminated) (ended-tells m conf.Terminated)
+state-tells s m a service st.ConfirmedSch (tmn p) = session-tells m service (ended_by m conf.Terminated) (ended-tells m conf.Terminated)
+state-tells s m a service st.ConfirmedSch (enc payload) = session-tells m service (on_enc s m payload) (enc-tells s m payload)
+state-tells s m a service state said = fails-tells m NotAllowed
 
-heard-tells : (s : Scheme) (m : Model) (seed : List ℕ) (h : Result Parts CodecFault) → Tells (heard s m seed h)
-heard-tells s m seed (Ok p) = state-tells s m seed p.service m.state p.said
-heard-tells s m seed (Err f) = fails-tells m (Codec f)
+heard-tells : (s : Scheme) (m : Model) (a : Ancillary) (h : Result Parts CodecFault) → Tells (heard s m a h)
+heard-tells s m a (Ok p) = state-tells s m a p.service m.state p.said
+heard-tells s m a (Err f) = fails-tells m (Codec f)
 
 -- a step, with its fault answered by an ERROR
-settled-ends : (m after : Model) (sep : ℕ) (reply : List ℕ) (answer : Result Outcome MachineFault)
-    → ((o : Outcome) → answer ≡ Ok o → (o.length ≡ length reply) × (o.fault ≡ None)) → Ends m (settled sep after reply answer)
-settled-ends m after sep reply (Ok o) h = faultless m (settled sep after reply (Ok o)) (λ r e. absurd (cc)) (λ p e. same p o (h o refl) e)
+settled-ends : (m : Model) (sep : ℕ) (step : Step) (answer : Result Outcome MachineFault)
+    → ((o : Outcome) → answer ≡ Ok o → (o.length ≡ length step.reply) × (o.fault ≡ None)) → Ends m (settled m sep step answer)
+settled-ends m sep step (Ok o) h = faultless m (settled m sep step (Ok o)) (λ r e. absurd (cc)) (λ p e. same p o (h o refl) e)
   where
-    same : (p q : Outcome) → (q.length ≡ length reply) × (q.fault ≡ None) → ◌≡◌ {A = Result Outcome Refusal} (Ok q) (Ok p) → (p.length ≡ length reply) × (p.fault ≡ None)
+    same : (p q : Outcome) → (q.length ≡ length step.reply) × (q.fault ≡ None) → ◌≡◌ {A = Result Outcome Refusal} (Ok q) (Ok p) → (p.length ≡ length step.reply) × (p.fault ≡ None)
     same p q k e = (grind (arith, common_steps), grind (arith, common_steps))
-settled-ends m after sep reply (Err f) h = faulted-ends m after sep f
+settled-ends m sep step (Err f) h = faulted-ends m sep f
 
-taken-ends : (s : Scheme) (m : Model) (seed : List ℕ) (sep : ℕ) (a : Result (Result Parts CodecFault) Refusal) → Ends m (taken s m seed sep a)
-taken-ends s m seed sep (Ok h) = let step = heard s m seed h in settled-ends m step.model sep step.reply step.answer (heard-tells s m seed h)
-taken-ends s m seed sep (Err r) = refused-ends m r
+taken-ends : (s : Scheme) (m : Model) (a : Ancillary) (sep : ℕ) (h : Result (Result Parts CodecFault) Refusal) → Ends m (taken s m a sep h)
+taken-ends s m a sep (Ok h) = let step = heard s m a h in settled-ends m sep step step.answer (heard-tells s m a h)
+taken-ends s m a sep (Err r) = refused-ends m r
 
-frame-ends : (s : Scheme) (m : Model) (bytes seed : List ℕ) (room : ℕ) → Ends m (frame_turn s m bytes seed room)
-frame-ends s m bytes seed room = chosen (no_room room) (wrong_seed seed)
+frame-ends : (s : Scheme) (m : Model) (bytes : List ℕ) (a : Ancillary) (room : ℕ) → Ends m (frame_turn s m bytes a room)
+frame-ends s m bytes a room = chosen (no_room room) (wrong_seed a.seed)
   where
-    chosen : (b d : Bool) → Ends m (cond b (refused m no.ReplyBuffer) (cond d (refused m no.SeedLength) (taken s m seed (first_byte bytes) (admitted m (reading bytes)))))
+    chosen : (b d : Bool) → Ends m (cond b (refused m no.ReplyBuffer) (cond d (refused m no.SeedLength) (taken s m a (first_byte bytes) (admitted m (reading bytes)))))
     chosen true d = refused-ends m no.ReplyBuffer
     chosen false true = refused-ends m no.SeedLength
-    chosen false false = taken-ends s m seed (first_byte bytes) (admitted m (reading bytes))
+    chosen false false = taken-ends s m a (first_byte bytes) (admitted m (reading bytes))
 
 ends : (s : Scheme) (m : Model) (c : Call) → Ends m (turn s m c)
 ends s m (invoke service pid seed room) = invoke-ends s m service pid seed room
@@ -150,7 +184,7 @@ ends s m (send plain room) = send-ends s m plain room
 ends s m (retrieve_data room) = data-ends m room
 ends s m (retrieve_secret room) = secret-ends m room
 ends s m (terminate room) = terminate-ends m room
-ends s m (frame bytes seed room) = frame-ends s m bytes seed room
+ends s m (frame bytes a room) = frame-ends s m bytes a room
 ends s m release = release-ends m
 
 pub every_call_ends : (s : Scheme) → EveryCallEnds s

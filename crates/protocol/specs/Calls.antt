@@ -1,5 +1,6 @@
 -- What each call of an entity answers, writes and leaves.
-use Rattle.std.specs.Prelude.{ℕ, ◌+◌, Bool, false, cond, not, ◌&&◌, ◌||◌, List, [], ◌∷◌, length, Some, None, Ok, Err, Option, Result, ◌==◌, nat_lt, nat_le}
+use Rattle.std.specs.Prelude.{◌≡◌, ℕ, ◌+◌, ◌≤◌, Bool, false, cond, not, ◌&&◌, ◌||◌, List, [], ◌∷◌, length, Some, None, Ok, Err, Option, Result, IfOk, ◌==◌, nat_lt, nat_le}
+use Rattle.buffers.specs.Buffers.{over}
 use Rattle.frame.specs.declared.types.Service.{Service}
 use Rattle.frame.specs.declared.types.Service.TheVariants.{Sse, Sch}
 use Rattle.frame.specs.declared.faults.CodecFault.{CodecFault}
@@ -7,10 +8,9 @@ use Rattle.frame.specs.declared.faults.FaultCode.{FaultCode}
 use Rattle.frame.specs.Frames.{Said, act_req, act_res, vfy_req, vfy_res, enc, tmn, error, Parts}
 use Rattle.frame.specs.Reading.{Reading, message, refused as unread, fault, reading, svc_bits, msg_bits}
 use Rattle.suite.specs.declared.types.Role.TheVariants.{Sender}
-use Rattle.suite.specs.declared.types.Denial.{Denial}
-use Rattle.suite.specs.Numbers.{role_byte}
+use Rattle.suite.specs.Meanings.{Bytes, keyring_of}
 use Rattle.suite.specs.Schemes.{Scheme}
-use Rattle.suite.specs.Calls.{wrong_seed, no_room, sealed, revealed}
+use Rattle.suite.specs.Calls.{wrong_seed, no_room}
 use Rattle.protocol.specs.declared.states.State.{State}
 use Rattle.protocol.specs.declared.states.State.TheVariants as st
 use Rattle.protocol.specs.declared.outcomes.Confirmation.{Confirmation}
@@ -22,8 +22,8 @@ use Rattle.protocol.specs.declared.faults.Fault.{Fault}
 use Rattle.protocol.specs.declared.faults.MachineFault.{MachineFault}
 use Rattle.protocol.specs.Numbers.{state_mark, cause_code, codec_of}
 use Rattle.protocol.specs.Outcomes.{quiet}
-use Rattle.protocol.specs.Models.{Model, idle, keys_of}
-use Rattle.protocol.specs.Steps.{Step, said_by, is_empty, record_length, same_service, heard}
+use Rattle.protocol.specs.Models.{Model, Ancillary, secret_value, idle, keys_of}
+use Rattle.protocol.specs.Steps.{Step, said_by, is_empty, record_length, same_service, sealed_record, heard}
 
 -- a call with its bytes; room is the length of the buffer that it may write
 pub data Call : Type 0 where
@@ -32,7 +32,7 @@ pub data Call : Type 0 where
   retrieve_data : (room : ℕ) → Call
   retrieve_secret : (room : ℕ) → Call
   terminate : (room : ℕ) → Call
-  frame : (bytes seed : List ℕ) (room : ℕ) → Call
+  frame : (bytes : List ℕ) (beside : Ancillary) (room : ℕ) → Call
   release : Call
 
 -- what a call leaves of the entity, what it answers, and what it writes to the front of the buffer
@@ -67,20 +67,16 @@ invoke_turn s m service pid seed room =
     (cond (not (in_state m st.Idle)) (refused m no.WrongState)
     (cond (not (pid == s.pid)) (refused m no.OtherPid)
     (done (record m { state = st.Select; service = service; role = Sender; seed = seed }) conf.Nothing
-    (said_by service (act_req pid (s.offer_of m.means.root seed)))))))
+    (said_by service (act_req pid (s.offer_of (keyring_of m.means) seed)))))))
 
 -- the number rises, and the record has the raised one
-abbrev pub sending : Model → Result (List ℕ) Denial → Turn
-sending m (Ok payload) = done (record m { number = m.number + 1 }) conf.DataSent (said_by Sch (enc payload))
-sending m (Err e) = refused m no.WrongState
-
 abbrev pub send_turn : Scheme → Model → List ℕ → ℕ → Turn
 send_turn s m plain room =
     cond (no_room room) (refused m no.ReplyBuffer)
     (cond (not (in_state m st.ConfirmedSch)) (refused m no.WrongState)
     (cond (not (record_length (length plain))) (refused m no.DataLength)
     (cond (nat_le s.final m.number) (refused m no.NumberSpent)
-    (sending m (sealed s m.means m.link (role_byte m.role) (m.number + 1) plain 255)))))
+    (done (record m { number = m.number + 1 }) conf.DataSent (said_by Sch (enc (sealed_record s m (m.number + 1) plain)))))))
 
 abbrev pub data_turn : Model → ℕ → Turn
 data_turn m room =
@@ -89,15 +85,11 @@ data_turn m room =
     (cond (nat_lt room (length m.held)) (refused m no.SmallBuffer)
     (done (record m { held = [] }) conf.Nothing m.held)))
 
-abbrev pub revealing : Model → Result (List ℕ) Denial → Turn
-revealing m (Ok value) = done m conf.Nothing value
-revealing m (Err e) = refused m no.WrongState
-
 abbrev pub secret_turn : Model → ℕ → Turn
 secret_turn m room =
     cond (not (in_state m st.ConfirmedSse)) (refused m no.WrongState)
     (cond (nat_lt room 16) (refused m no.SmallBuffer)
-    (revealing m (revealed m.means m.secret room)))
+    (done m conf.Nothing (secret_value m)))
 
 abbrev pub terminate_turn : Model → ℕ → Turn
 terminate_turn m room =
@@ -144,26 +136,27 @@ faulted m sep f =
     (said_by (error_service m.service sep f.state) (error (error_payload (cause_code f.cause))))
     (Some (record { machine = f; message = msg_bits sep }))
 
-abbrev pub settled : ℕ → Model → List ℕ → Result Outcome MachineFault → Turn
-settled sep m reply (Ok outcome) = record { model = m; answer = Ok outcome; reply = reply }
-settled sep m reply (Err f) = faulted m sep f
+-- a step as a call: a fault ends the session as it was before
+abbrev pub settled : Model → ℕ → Step → Result Outcome MachineFault → Turn
+settled m sep step (Ok outcome) = record { model = step.model; answer = Ok outcome; reply = step.reply }
+settled m sep step (Err f) = faulted m sep f
 
-abbrev pub settle : ℕ → Step → Turn
-settle sep step = settled sep step.model step.reply step.answer
+abbrev pub settle : Model → ℕ → Step → Turn
+settle m sep step = settled m sep step step.answer
 
 abbrev pub first_byte : List ℕ → ℕ
 first_byte [] = 0
 first_byte (b ∷ rest) = b
 
-abbrev pub taken : Scheme → Model → List ℕ → ℕ → Result (Result Parts CodecFault) Refusal → Turn
-taken s m seed sep (Ok h) = settle sep (heard s m seed h)
-taken s m seed sep (Err refusal) = refused m refusal
+abbrev pub taken : Scheme → Model → Ancillary → ℕ → Result (Result Parts CodecFault) Refusal → Turn
+taken s m a sep (Ok h) = settle m sep (heard s m a h)
+taken s m a sep (Err refusal) = refused m refusal
 
-abbrev pub frame_turn : Scheme → Model → List ℕ → List ℕ → ℕ → Turn
-frame_turn s m bytes seed room =
+abbrev pub frame_turn : Scheme → Model → List ℕ → Ancillary → ℕ → Turn
+frame_turn s m bytes a room =
     cond (no_room room) (refused m no.ReplyBuffer)
-    (cond (wrong_seed seed) (refused m no.SeedLength)
-    (taken s m seed (first_byte bytes) (admitted m (reading bytes))))
+    (cond (wrong_seed a.seed) (refused m no.SeedLength)
+    (taken s m a (first_byte bytes) (admitted m (reading bytes))))
 
 abbrev pub turn : Scheme → Model → Call → Turn
 turn s m (invoke service pid seed room) = invoke_turn s m service pid seed room
@@ -171,5 +164,25 @@ turn s m (send plain room) = send_turn s m plain room
 turn s m (retrieve_data room) = data_turn m room
 turn s m (retrieve_secret room) = secret_turn m room
 turn s m (terminate room) = terminate_turn m room
-turn s m (frame bytes seed room) = frame_turn s m bytes seed room
+turn s m (frame bytes a room) = frame_turn s m bytes a room
 turn s m release = release_turn m
+
+-- what a call is given are bytes
+abbrev pub GivenBytes : Call → Type 0
+GivenBytes (invoke service pid seed room) = Bytes seed
+GivenBytes (send plain room) = Bytes plain
+GivenBytes (retrieve_data room) = Unit {0}
+GivenBytes (retrieve_secret room) = Unit {0}
+GivenBytes (terminate room) = Unit {0}
+GivenBytes (frame bytes a room) = Bytes bytes × Bytes a.seed
+GivenBytes release = Unit {0}
+
+-- A call made, by the entity before and after, its result, and the buffer before and after. What is written lies within the buffer, and is no
+-- longer than a frame.
+pub record Made (s : Scheme) (before : Model) (c : Call) (after : Model) (result : Result Outcome Refusal) (old new : List ℕ) : Type 0 where
+  pub given : GivenBytes c
+  pub model : after ≡ (turn s before c).model
+  pub answer : result ≡ (turn s before c).answer
+  pub buffer : new ≡ over (turn s before c).reply old
+  pub within : IfOk result (λ o. o.length ≤ length old)
+  pub short : IfOk result (λ o. o.length ≤ 255)

@@ -1,7 +1,8 @@
 -- How a call ends, whatever it is given: refused with nothing altered, or answered; with a fault, by an ERROR frame that tells it.
-use Rattle.std.specs.Prelude.{◌≡◌, ℕ, List, [], length, Some, Ok, Err}
+use Rattle.std.specs.Prelude.{◌≡◌, ℕ, false, List, [], length, Some, Ok, Err}
 use Rattle.frame.specs.declared.types.Service.{Service}
 use Rattle.frame.specs.Frames.{error}
+use Rattle.suite.specs.Meanings.{Formed, keyring_of, is_live}
 use Rattle.suite.specs.Schemes.{Scheme}
 use Rattle.protocol.specs.declared.states.State.TheVariants.{Idle}
 use Rattle.protocol.specs.declared.outcomes.Confirmation.TheVariants as conf
@@ -9,7 +10,7 @@ use Rattle.protocol.specs.declared.outcomes.Outcome.{Outcome}
 use Rattle.protocol.specs.declared.refusals.Refusal.{Refusal}
 use Rattle.protocol.specs.declared.faults.Fault.{Fault}
 use Rattle.protocol.specs.Numbers.{cause_code}
-use Rattle.protocol.specs.Models.{Model, no_seed}
+use Rattle.protocol.specs.Models.{Model, no_seed, keys_of}
 use Rattle.protocol.specs.Steps.{said_by}
 use Rattle.protocol.specs.Calls.{Call, Turn, error_payload, turn}
 
@@ -25,10 +26,13 @@ pub record Cleared (m : Model) : Type 0 where
 abbrev pub TellsFault : Fault → List ℕ → Type 0
 TellsFault f reply = (service : Service) × (reply ≡ said_by service (error (error_payload (cause_code f.machine.cause))))
 
+-- a fault ends the session: the keys that it had are reported destroyed, and are live no more
 pub record Faulty (m : Model) (t : Turn) (o : Outcome) (f : Fault) : Type 0 where
   pub confirmation : o.confirmation ≡ conf.Error
   pub idle : t.model.state ≡ Idle
   pub cleared : Cleared t.model
+  pub destroyed : o.destroyed ≡ keys_of m
+  pub gone : Formed (keyring_of m.means) → (is_live t.model.means.live m.link ≡ false) × (is_live t.model.means.live m.secret ≡ false)
   pub reply : TellsFault f t.reply
 
 pub record Ends (m : Model) (t : Turn) : Type 0 where

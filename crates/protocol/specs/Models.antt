@@ -1,13 +1,14 @@
 -- What an entity is at one moment.
-use Rattle.std.specs.Prelude.{ℕ, cond, List, [], replicate, ◌==◌}
+use Rattle.std.specs.Prelude.{◌≡◌, ℕ, Bool, true, false, cond, List, [], replicate, is_some, ◌==◌}
 use Rattle.frame.specs.declared.types.Service.{Service}
 use Rattle.frame.specs.declared.types.Service.TheVariants.{Sse}
 use Rattle.suite.specs.declared.types.Role.{Role}
 use Rattle.suite.specs.declared.types.Role.TheVariants.{Sender}
-use Rattle.suite.specs.Meanings.{Meaning}
+use Rattle.suite.specs.declared.types.KeyKind.TheVariants.{SharedSecret, LinkKey}
+use Rattle.suite.specs.Meanings.{Meaning, value_in, value_of}
 use Rattle.suite.specs.Calls.{after_destroy}
 use Rattle.protocol.specs.declared.states.State.{State}
-use Rattle.protocol.specs.declared.states.State.TheVariants.{Idle}
+use Rattle.protocol.specs.declared.states.State.TheVariants.{Idle, Select, EstablishedSender, EstablishedRecipient, ConfirmedSse, ConfirmedSch}
 use Rattle.protocol.specs.declared.outcomes.Destroyed.{Destroyed}
 
 -- secret and link are the serials of its shared secret and of its link key, 0 for none; no data is held where held is empty
@@ -25,6 +26,40 @@ pub record Model : Type 0 where
   pub held : List ℕ
   pub secret : ℕ
   pub link : ℕ
+
+-- what a call with a frame brings beside it: the seed for an agreement
+pub record Ancillary : Type 0 where
+  pub seed : List ℕ
+
+-- the values of its two keys
+abbrev pub secret_value : Model → List ℕ
+secret_value m = value_of m.means.live SharedSecret m.secret
+
+abbrev pub link_value : Model → List ℕ
+link_value m = value_of m.means.live LinkKey m.link
+
+-- the states from the agreement on
+abbrev pub has_secret : State → Bool
+has_secret Idle = false
+has_secret Select = false
+has_secret EstablishedSender = true
+has_secret EstablishedRecipient = true
+has_secret ConfirmedSse = true
+has_secret ConfirmedSch = true
+
+-- the state in which records are sent and taken in
+abbrev pub has_link : State → Bool
+has_link Idle = false
+has_link Select = false
+has_link EstablishedSender = false
+has_link EstablishedRecipient = false
+has_link ConfirmedSse = false
+has_link ConfirmedSch = true
+
+-- the keys that an entity works with in its state are live in its suite
+pub record KeysLive (m : Model) : Type 0 where
+  pub secret : has_secret m.state ≡ true → is_some (value_in m.means.live SharedSecret m.secret) ≡ true
+  pub link : has_link m.state ≡ true → is_some (value_in m.means.live LinkKey m.link) ≡ true
 
 abbrev pub no_seed : List ℕ
 no_seed = replicate 16 0

@@ -1,6 +1,7 @@
 -- What a message does in each state.
-use Rattle.std.specs.Prelude.{ℕ, ◌+◌, Bool, true, false, cond, not, ◌&&◌, ◌||◌, List, [], length, Some, None, Ok, Err, Option, Result, ◌==◌, nat_lt}
+use Rattle.std.specs.Prelude.{◌≡◌, ℕ, ◌+◌, ◌≤◌, Bool, true, false, cond, not, ◌&&◌, ◌||◌, List, [], length, Some, None, Ok, Err, Option, Result, IfOk, IfErr, ◌==◌, nat_lt}
 use Rattle.std.specs.Str.{bytes_eq}
+use Rattle.buffers.specs.Buffers.{over}
 use Rattle.frame.specs.declared.types.Service.{Service}
 use Rattle.frame.specs.declared.types.Service.TheVariants.{Sse, Sch}
 use Rattle.frame.specs.declared.faults.CodecFault.{CodecFault}
@@ -9,11 +10,10 @@ use Rattle.frame.specs.Frames.{Said, act_req, act_res, vfy_req, vfy_res, enc, tm
 use Rattle.suite.specs.declared.types.Role.{Role}
 use Rattle.suite.specs.declared.types.Role.TheVariants.{Sender, Recipient}
 use Rattle.suite.specs.declared.types.KeyKind.TheVariants.{SharedSecret, LinkKey}
-use Rattle.suite.specs.declared.types.Denial.{Denial}
-use Rattle.suite.specs.declared.types.Denial.TheVariants as denied
 use Rattle.suite.specs.Numbers.{role_byte}
+use Rattle.suite.specs.Meanings.{keyring_of}
 use Rattle.suite.specs.Schemes.{Scheme}
-use Rattle.suite.specs.Calls.{adding, agreed, derived, checked, opened}
+use Rattle.suite.specs.Calls.{adding, spent}
 use Rattle.protocol.specs.declared.states.State.{State}
 use Rattle.protocol.specs.declared.states.State.TheVariants as st
 use Rattle.protocol.specs.declared.outcomes.Confirmation.{Confirmation}
@@ -25,7 +25,7 @@ use Rattle.protocol.specs.declared.faults.Cause.{Cause}
 use Rattle.protocol.specs.declared.faults.Cause.TheVariants.{Codec, NotAllowed, OtherService, Suite, WrongNumber}
 use Rattle.protocol.specs.declared.faults.MachineFault.{MachineFault}
 use Rattle.protocol.specs.Outcomes.{quiet}
-use Rattle.protocol.specs.Models.{Model, idle, keys_of}
+use Rattle.protocol.specs.Models.{Model, Ancillary, secret_value, link_value, idle, keys_of}
 
 -- what a message leaves of the entity, its outcome or the fault that is met, and the bytes that it is answered by
 pub record Step : Type 0 where
@@ -59,37 +59,32 @@ said_by service said = wire (record { service = service; said = said })
 
 -- What is asked of the suite.
 
--- S2 for an offer that is not fit, S3 for no further key; an entity gives rise to no other denial
-abbrev pub agree_fault : Denial → SuiteFault
-agree_fault denied.BadOffer = BadOffer
-agree_fault denied.Spent = NoKey
-agree_fault denied.Unfit = BadOffer
-agree_fault denied.Unknown = BadOffer
-
-abbrev pub faulty : {A : Type 0} → (Denial → SuiteFault) → Result A Denial → Result A SuiteFault
-faulty f (Ok x) = Ok x
-faulty f (Err e) = Err (f e)
-
--- the value of the shared secret
+-- the value of the shared secret: S2 for an offer that is not fit, S3 for no further key
 abbrev pub agreement : Scheme → Model → List ℕ → List ℕ → Role → Result (List ℕ) SuiteFault
-agreement s m seed offer role = faulty agree_fault (agreed s m.means seed offer (role_byte role))
+agreement s m seed offer role =
+    cond (not (s.fit_of (keyring_of m.means) offer)) (Err BadOffer)
+    (cond (spent m.means) (Err NoKey)
+    (Ok (s.secret_of (keyring_of m.means) (role_byte role) seed offer)))
 
--- the check value of the shared secret for a role; S4 where there is none
-abbrev pub check_value : Scheme → Model → Role → Result (List ℕ) SuiteFault
-check_value s m role = faulty (λ e. WrongCheck) (checked s m.means m.secret (role_byte role) 255)
+-- the check value of the shared secret for a role
+abbrev pub check_value : Scheme → Model → Role → List ℕ
+check_value s m role = s.check_of (keyring_of m.means) m.secret (secret_value m) (role_byte role)
 
--- the value of the link key; S3 where there is none
-abbrev pub link_value : Scheme → Model → Result (List ℕ) SuiteFault
-link_value s m = faulty (λ e. NoKey) (derived s m.means m.secret)
+-- the value of the link key: S3 for no further key
+abbrev pub derivation : Scheme → Model → Result (List ℕ) SuiteFault
+derivation s m = cond (spent m.means) (Err NoKey) (Ok (s.link_of (keyring_of m.means) m.secret (secret_value m)))
 
--- the role, number and data of a payload; S5 where it is not good
-abbrev pub good : Result (Option (ℕ × ℕ × List ℕ)) Denial → Result (ℕ × ℕ × List ℕ) SuiteFault
-good (Ok (Some t)) = Ok t
-good (Ok None) = Err BadRecord
-good (Err e) = Err BadRecord
+-- the payload of a record of one's own
+abbrev pub sealed_record : Scheme → Model → ℕ → List ℕ → List ℕ
+sealed_record s m n plain = s.seal_of (keyring_of m.means) m.link (link_value m) (role_byte m.role) n plain
+
+-- the role, number and data of a payload: S5 where it is not good
+abbrev pub good : Option (ℕ × ℕ × List ℕ) → Result (ℕ × ℕ × List ℕ) SuiteFault
+good (Some t) = Ok t
+good None = Err BadRecord
 
 abbrev pub opened_record : Scheme → Model → List ℕ → Result (ℕ × ℕ × List ℕ) SuiteFault
-opened_record s m payload = good (opened s m.means m.link payload 255)
+opened_record s m payload = good (s.open_of (keyring_of m.means) m.link (link_value m) payload)
 
 -- Idle. ACT_REQ: S1, then the Recipient agrees with the seed that the call brings, and answers by its offer.
 
@@ -99,35 +94,30 @@ with_secret m value = record m { means = adding m.means SharedSecret value; secr
 abbrev pub as_recipient : Model → Service → List ℕ → Model
 as_recipient m service value = record (with_secret m value) { state = st.EstablishedRecipient; service = service; role = Recipient }
 
+-- the Recipient's answer, once it has agreed
+abbrev pub offering : Scheme → Model → List ℕ → Step
+offering s m seed = moved m conf.Nothing m.secret (said_by m.service (act_res (s.offer_of (keyring_of m.means) seed)))
+
 abbrev pub on_act_req : Scheme → Model → Service → ℕ → List ℕ → List ℕ → Step
 on_act_req s m service pid offer seed =
     cond (not (pid == s.pid)) (fails m (Suite OtherPid))
     (unless m (agreement s m seed offer Recipient) (λ value.
-    moved (as_recipient m service value) conf.Nothing (m.means.newest + 1) (said_by service (act_res (s.offer_of m.means.root seed)))))
+    offering s (as_recipient m service value) seed))
 
 -- Select. ACT_RES: the Sender agrees with the seed that it kept, and asks for verification by its check value.
 
-abbrev pub asking : Scheme → Model → ℕ → Step
-asking s m made =
-    unless m (check_value s m Sender) (λ check.
-    moved (record m { state = st.EstablishedSender }) conf.Nothing made (said_by m.service (vfy_req check)))
+abbrev pub asking : Scheme → Model → Step
+asking s m = moved (record m { state = st.EstablishedSender }) conf.Nothing m.secret (said_by m.service (vfy_req (check_value s m Sender)))
 
 abbrev pub on_act_res : Scheme → Model → List ℕ → Step
 on_act_res s m offer =
     unless m (agreement s m m.seed offer Sender) (λ value.
-    asking s (with_secret m value) (m.means.newest + 1))
+    asking s (with_secret m value))
 
 -- Established. VFY: the peer's check value is compared, S4; for SCH the link key is derived, S3; the Recipient answers by its own check value.
 
-abbrev pub same_as : List ℕ → List ℕ → Result (Unit {0}) SuiteFault
-same_as check payload = cond (bytes_eq payload check) (Ok tt) (Err WrongCheck)
-
-abbrev pub compared : List ℕ → Result (List ℕ) SuiteFault → Result (Unit {0}) SuiteFault
-compared payload (Ok check) = same_as check payload
-compared payload (Err e) = Err e
-
 abbrev pub verified : Scheme → Model → Role → List ℕ → Result (Unit {0}) SuiteFault
-verified s m role payload = compared payload (check_value s m role)
+verified s m role payload = cond (bytes_eq payload (check_value s m role)) (Ok tt) (Err WrongCheck)
 
 abbrev pub with_link : Scheme → Model → List ℕ → Model
 with_link s m value = record m {
@@ -144,14 +134,13 @@ linked s m (Err e) = Err e
 
 abbrev pub confirmed : Scheme → Model → Service → Result (Model × ℕ) SuiteFault
 confirmed s m Sse = Ok (record m { state = st.ConfirmedSse }, 0)
-confirmed s m Sch = linked s m (link_value s m)
+confirmed s m Sch = linked s m (derivation s m)
 
 abbrev pub on_vfy_req : Scheme → Model → List ℕ → Step
 on_vfy_req s m payload =
     unless m (verified s m Sender payload) (λ _.
-    unless m (check_value s m Recipient) (λ own.
     unless m (confirmed s m m.service) (λ c.
-    moved c.0 conf.Established c.1 (said_by m.service (vfy_res own)))))
+    moved c.0 conf.Established c.1 (said_by m.service (vfy_res (check_value s m Recipient)))))
 
 abbrev pub on_vfy_res : Scheme → Model → List ℕ → Step
 on_vfy_res s m payload =
@@ -197,18 +186,26 @@ same_service a b = service_code a == service_code b
 abbrev pub in_session : Model → Service → Step → Step
 in_session m service step = cond (not (same_service service m.service)) (fails m OtherService) step
 
-abbrev pub by_state : Scheme → Model → List ℕ → Service → State → Said → Step
-by_state s m seed service state (error p) = ended_by m conf.Error
-by_state s m seed service st.Idle (act_req pid offer) = on_act_req s m service pid offer seed
-by_state s m seed service st.Select (act_res offer) = in_session m service (on_act_res s m offer)
-by_state s m seed service st.EstablishedSender (vfy_res check) = in_session m service (on_vfy_res s m check)
-by_state s m seed service st.EstablishedRecipient (vfy_req check) = in_session m service (on_vfy_req s m check)
-by_state s m seed service st.ConfirmedSse (tmn p) = in_session m service (ended_by m conf.Terminated)
-by_state s m seed service st.ConfirmedSch (tmn p) = in_session m service (ended_by m conf.Terminated)
-by_state s m seed service st.ConfirmedSch (enc payload) = in_session m service (on_enc s m payload)
-by_state s m seed service state said = fails m NotAllowed
+abbrev pub by_state : Scheme → Model → Ancillary → Service → State → Said → Step
+by_state s m a service state (error p) = ended_by m conf.Error
+by_state s m a service st.Idle (act_req pid offer) = on_act_req s m service pid offer a.seed
+by_state s m a service st.Select (act_res offer) = in_session m service (on_act_res s m offer)
+by_state s m a service st.EstablishedSender (vfy_res check) = in_session m service (on_vfy_res s m check)
+by_state s m a service st.EstablishedRecipient (vfy_req check) = in_session m service (on_vfy_req s m check)
+by_state s m a service st.ConfirmedSse (tmn p) = in_session m service (ended_by m conf.Terminated)
+by_state s m a service st.ConfirmedSch (tmn p) = in_session m service (ended_by m conf.Terminated)
+by_state s m a service st.ConfirmedSch (enc payload) = in_session m service (on_enc s m payload)
+by_state s m a service state said = fails m NotAllowed
 
 -- a frame that was read: a message or a codec fault
-abbrev pub heard : Scheme → Model → List ℕ → Result Parts CodecFault → Step
-heard s m seed (Ok p) = by_state s m seed p.service m.state p.said
-heard s m seed (Err f) = fails m (Codec f)
+abbrev pub heard : Scheme → Model → Ancillary → Result Parts CodecFault → Step
+heard s m a (Ok p) = by_state s m a p.service m.state p.said
+heard s m a (Err f) = fails m (Codec f)
+
+-- A step made, by the entity before and after, its result, and the reply buffer before and after. A fault leaves entity and buffer as they were.
+pub record Stepped (before : Model) (step : Step) (after : Model) (result : Result Outcome MachineFault) (old new : List ℕ) : Type 0 where
+  pub model : after ≡ step.model
+  pub answer : result ≡ step.answer
+  pub buffer : new ≡ over step.reply old
+  pub untouched : IfErr result (λ f. (after ≡ before) × (new ≡ old))
+  pub short : IfOk result (λ o. o.length ≤ 255)

@@ -6,7 +6,7 @@ use Rattle.std.proofs.lemmas.Bool.{ne_eqb, eq-eqb, or_from}
 use Rattle.std.proofs.lemmas.Grind.{common_steps}
 use Rattle.suite.specs.declared.types.KeyKind.{KeyKind}
 use Rattle.suite.specs.declared.types.KeyKind.TheVariants.{SharedSecret, LinkKey}
-use Rattle.suite.specs.Meanings.{Bytes16, Key, Keyring, Formed, same_kind, value_in, value_of, is_live}
+use Rattle.suite.specs.Meanings.{Bytes16, Key, Keyring, Formed, Apart, same_kind, value_in, value_of, is_live, without}
 use Rattle.suite.specs.Schemes.{Scheme, OneKind}
 
 -- of two values, the one that a test picks
@@ -45,6 +45,27 @@ value_added (j ∷ ks) k h = grind (arith, common_steps, value_added ks k)
 pub value_stays : (ks : List Key) (k : Key) (kind : KeyKind) (n : ℕ) (v : List ℕ) → value_in ks kind n ≡ Some v → value_in (ks ++ (k ∷ [])) kind n ≡ Some v
 value_stays [] k kind n v e = absurd (cc)
 value_stays (j ∷ ks) k kind n v e = grind (arith, common_steps, value_stays ks k kind n v)
+
+-- After a key is taken away: it is not live, none becomes live, and no two have one serial.
+
+pub taken_away : (ks : List Key) (n : ℕ) → Apart ks → is_live (without ks n) n ≡ false
+taken_away [] n a = refl
+taken_away (k ∷ ks) n a = grind (arith, common_steps, taken_away ks n)
+
+pub live-without : (ks : List Key) (d n : ℕ) → is_live ks n ≡ false → is_live (without ks d) n ≡ false
+live-without [] d n h = refl
+live-without (k ∷ ks) d n h = grind (arith, common_steps, live-without ks d n)
+
+pub apart-without : (ks : List Key) (d : ℕ) → Apart ks → Apart (without ks d)
+apart-without [] d a = tt
+apart-without (k ∷ ks) d a = grind (arith, common_steps, apart-without ks d, live-without ks d k.serial)
+
+-- no key has the serial 0
+pub none_zero : (ks : List Key) (newest : ℕ) → AllByRecursion (λ j. (1 ≤ j.serial) × (j.serial ≤ newest)) ks → is_live ks 0 ≡ false
+none_zero [] newest all = refl
+none_zero (k ∷ ks) newest all =
+    let low : 1 ≤ k.serial = all.0.0 in
+    or_from (eqb k.serial 0) (is_live ks 0) (ne_eqb k.serial 0 (λ e. omega arith)) (none_zero ks newest all.1)
 
 -- being of one kind goes both ways
 pub one_kind-sym : (s t : Scheme) → OneKind s t → OneKind t s
