@@ -1,3 +1,4 @@
 pub mod ByteLaws
+pub mod CallLaws
 pub mod KeyLaws
 pub mod RoleLaws
