@@ -1,3 +1,3 @@
-mod Padding
+mod KeysKept
 mod Lengths
-mod Silence
+mod Padding

@@ -1,2 +1,3 @@
+pub mod Called
 pub mod Results
 pub mod Views

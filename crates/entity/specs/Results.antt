@@ -4,19 +4,13 @@ use Rattle.frame.specs.declared.types.Message.{Message}
 use Rattle.frame.specs.declared.types.Service.{Service}
 use Rattle.frame.specs.declared.faults.CodecFault.{CodecFault}
 use Rattle.frame.specs.Frames.{Parts, parts}
-use Rattle.suite.specs.declared.types.Denial.{Denial}
-use Rattle.protocol.specs.declared.refusals.Refusal.{Refusal}
-use Rattle.protocol.specs.declared.refusals.Refusal.TheVariants.{WrongState}
+use Rattle.protocol.specs.declared.outcomes.Outcome.{Outcome}
 use Rattle.protocol.specs.declared.faults.SuiteFault.{SuiteFault}
+use Rattle.protocol.specs.declared.faults.Fault.{Fault}
 use Rattle.protocol.specs.declared.faults.MachineFault.{MachineFault}
 use Rattle.protocol.specs.declared.faults.Cause.TheVariants.{OtherService}
 use Rattle.protocol.specs.Models.{Model}
 use Rattle.protocol.specs.Steps.{same_service}
-
--- a payload, or the refusal of a request that the suite denies
-abbrev pub payload_shown : Result (List ℕ) Denial → Result (List ℕ) Refusal
-payload_shown (Ok payload) = Ok payload
-payload_shown (Err e) = Err WrongState
 
 -- role, number and data
 abbrev pub record_shown : Result (ℕ × ℕ × ℕ) SuiteFault → List ℕ → Result (ℕ × ℕ × List ℕ) SuiteFault
@@ -40,3 +34,8 @@ other_service m service = cond (same_service service m.service) (Ok tt) (Err (re
 abbrev pub heard_parts : Result Message CodecFault → Result Parts CodecFault
 heard_parts (Ok m) = Ok (parts m)
 heard_parts (Err f) = Err f
+
+-- the machine's part of an entity's fault
+abbrev pub machine_result : Result Outcome Fault → Result Outcome MachineFault
+machine_result (Ok o) = Ok o
+machine_result (Err f) = Err f.machine

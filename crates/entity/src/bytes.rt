@@ -1,4 +1,4 @@
-ghost use Rattle.std.specs.Prelude.{◌≡◌, ◌≤◌, false, cond, length, Ok, Err};
+ghost use Rattle.std.specs.Prelude.{◌≡◌, ◌≤◌, false, cond, length, replicate, Ok, Err};
 ghost use Rattle.std.specs.Result.{result_map_both};
 ghost use Rattle.buffers.specs.Buffers.{over};
 ghost use Rattle.frame.specs.Frames.{said_by as says};
@@ -46,4 +46,11 @@ pub(crate) fn put(service: Service, body: Body<'_>, reply: &mut [u8]) -> usize
     ensures buffer { reply.new ≡ over (said_by service (says body.entry)) reply.old }
 {
     write(&Message { service, body }, reply).unwrap()
+}
+
+// Zeros, over bytes in which data lay.
+pub(crate) fn wipe(scratch: &mut [u8; 255])
+    ensures { scratch.new ≡ replicate 255 0 }
+{
+    scratch.fill(0);
 }

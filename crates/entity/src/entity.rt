@@ -1,11 +1,13 @@
 ghost use Rattle.std.specs.Prelude.{◌≡◌, ℕ, ◌<◌, length, slice_index};
+ghost use Rattle.protocol.specs.Models.{KeysLive};
 
 use crate::held::Held;
 use frame::Service;
 use protocol::State;
-use suite::Role;
+use suite::{Role, Suite};
 
 mod agreement;
+mod dispatch;
 mod ends;
 mod frames;
 mod machine;
@@ -15,8 +17,8 @@ mod requests;
 mod suite_calls;
 mod verification;
 
-// One end of the link, over its suite. It can be neither copied nor let go, only put away, so that no live key is lost sight of.
-pub struct Entity<S> {
+/// One end of the link, over its suite. It can be neither copied nor let go, only put away, so that no live key is lost sight of.
+pub struct Entity<S: Suite> {
     suite: S,
     state: State,
     // The session's; in Idle, that of the last session.
@@ -32,4 +34,5 @@ pub struct Entity<S> {
     link: u32,
     ghost long: { length seed ≡ 16 },
     ghost bytes: { ((i : ℕ) → slice_index seed i < 256) },
+    ghost keys: { KeysLive (S.meaning suite) state secret link },
 }

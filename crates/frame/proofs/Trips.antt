@@ -1,7 +1,7 @@
 -- Reader and writer undo each other.
-use Rattle.std.proofs.Common.{◌≡◌, ℕ, Bool, true, false, cond, not, eqb, ltb, List, [], ◌∷◌, length, take, drop, Some, None, Ok, Err, Option, Result, sym, refl, ap, ◌∙◌, subst, arith}
+use Rattle.std.proofs.Common.{◌≡◌, ℕ, Bool, true, false, cond, not, eqb, ltb, ◌≤◌, List, [], ◌∷◌, length, take, drop, Some, None, Ok, Err, Option, Result, sym, refl, ap, ◌∙◌, subst, arith}
 use Rattle.std.proofs.lemmas.List.{take_at}
-use Rattle.std.proofs.lemmas.Bool.{eqb-true, le-ltb}
+use Rattle.std.proofs.lemmas.Bool.{eqb-true, le-ltb, ltb-false}
 use Rattle.std.proofs.lemmas.Bool.Decides.{nat_tests}
 use Rattle.frame.specs.declared.types.Service.{Service}
 use Rattle.frame.specs.declared.types.Service.TheVariants.{Sse, Sch}
@@ -95,6 +95,18 @@ taken_at b rest x false short e = taken_head b rest x (head b) short refl e
 taken : (frame : List ℕ) (x : Parts) → reading frame ≡ message x → Taken frame x
 taken [] x e = never (cc)
 taken (b ∷ rest) x e = taken_at b rest x (ltb 255 (length (b ∷ rest))) refl e
+
+-- bytes that are read as a message are the bytes of that message
+pub read_is : (frame : List ℕ) (x : Parts) → reading frame ≡ message x → wire x ≡ frame
+read_is frame x e = (taken frame x e).bytes
+
+-- what stands after its SEP has at most 254 bytes
+pub read_short : (frame : List ℕ) (x : Parts) → reading frame ≡ message x → length (fields x.said) ≤ 254
+read_short frame x e =
+    let t = taken frame x e in
+    let long : length (wire x) ≡ length frame = ap length t.bytes in
+    let most : length frame ≤ 255 = ltb-false 255 (length frame) t.short in
+    omega arith
 
 pub writes_again : (frame : List ℕ) (r : Reading) → r ≡ reading frame → WritesAgain frame r
 writes_again frame r is x room e h =

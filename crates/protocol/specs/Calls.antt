@@ -180,7 +180,6 @@ GivenBytes release = Unit {0}
 -- A call made, by the entity before and after, its result, and the buffer before and after. What is written lies within the buffer, and is no
 -- longer than a frame.
 pub record Made (s : Scheme) (before : Model) (c : Call) (after : Model) (result : Result Outcome Refusal) (old new : List ℕ) : Type 0 where
-  pub given : GivenBytes c
   pub model : after ≡ (turn s before c).model
   pub answer : result ≡ (turn s before c).answer
   pub buffer : new ≡ over (turn s before c).reply old

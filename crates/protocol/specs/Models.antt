@@ -56,10 +56,10 @@ has_link EstablishedRecipient = false
 has_link ConfirmedSse = false
 has_link ConfirmedSch = true
 
--- the keys that an entity works with in its state are live in its suite
-pub record KeysLive (m : Model) : Type 0 where
-  pub secret : has_secret m.state ≡ true → is_some (value_in m.means.live SharedSecret m.secret) ≡ true
-  pub link : has_link m.state ≡ true → is_some (value_in m.means.live LinkKey m.link) ≡ true
+-- the keys that an entity works with in its state, by their serials, are live in its suite
+pub record KeysLive (means : Meaning) (state : State) (secret link : ℕ) : Type 0 where
+  pub secret_live : has_secret state ≡ true → is_some (value_in means.live SharedSecret secret) ≡ true
+  pub link_live : has_link state ≡ true → is_some (value_in means.live LinkKey link) ≡ true
 
 abbrev pub no_seed : List ℕ
 no_seed = replicate 16 0

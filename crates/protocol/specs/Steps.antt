@@ -11,7 +11,7 @@ use Rattle.suite.specs.declared.types.Role.{Role}
 use Rattle.suite.specs.declared.types.Role.TheVariants.{Sender, Recipient}
 use Rattle.suite.specs.declared.types.KeyKind.TheVariants.{SharedSecret, LinkKey}
 use Rattle.suite.specs.Numbers.{role_byte}
-use Rattle.suite.specs.Meanings.{keyring_of}
+use Rattle.suite.specs.Meanings.{Meaning, keyring_of, value_of}
 use Rattle.suite.specs.Schemes.{Scheme}
 use Rattle.suite.specs.Calls.{adding, spent}
 use Rattle.protocol.specs.declared.states.State.{State}
@@ -60,19 +60,21 @@ said_by service said = wire (record { service = service; said = said })
 -- What is asked of the suite.
 
 -- the value of the shared secret: S2 for an offer that is not fit, S3 for no further key
-abbrev pub agreement : Scheme → Model → List ℕ → List ℕ → Role → Result (List ℕ) SuiteFault
-agreement s m seed offer role =
-    cond (not (s.fit_of (keyring_of m.means) offer)) (Err BadOffer)
-    (cond (spent m.means) (Err NoKey)
-    (Ok (s.secret_of (keyring_of m.means) (role_byte role) seed offer)))
+abbrev pub agreement : Scheme → Meaning → List ℕ → List ℕ → Role → Result (List ℕ) SuiteFault
+agreement s means seed offer role =
+    cond (not (s.fit_of (keyring_of means) offer)) (Err BadOffer)
+    (cond (spent means) (Err NoKey)
+    (Ok (s.secret_of (keyring_of means) (role_byte role) seed offer)))
 
 -- the check value of the shared secret for a role
 abbrev pub check_value : Scheme → Model → Role → List ℕ
 check_value s m role = s.check_of (keyring_of m.means) m.secret (secret_value m) (role_byte role)
 
--- the value of the link key: S3 for no further key
-abbrev pub derivation : Scheme → Model → Result (List ℕ) SuiteFault
-derivation s m = cond (spent m.means) (Err NoKey) (Ok (s.link_of (keyring_of m.means) m.secret (secret_value m)))
+-- the value of the link key of a shared secret: S3 for no further key
+abbrev pub derivation : Scheme → Meaning → ℕ → Result (List ℕ) SuiteFault
+derivation s means key =
+    cond (spent means) (Err NoKey)
+    (Ok (s.link_of (keyring_of means) key (value_of means.live SharedSecret key)))
 
 -- the payload of a record of one's own
 abbrev pub sealed_record : Scheme → Model → ℕ → List ℕ → List ℕ
@@ -101,7 +103,7 @@ offering s m seed = moved m conf.Nothing m.secret (said_by m.service (act_res (s
 abbrev pub on_act_req : Scheme → Model → Service → ℕ → List ℕ → List ℕ → Step
 on_act_req s m service pid offer seed =
     cond (not (pid == s.pid)) (fails m (Suite OtherPid))
-    (unless m (agreement s m seed offer Recipient) (λ value.
+    (unless m (agreement s m.means seed offer Recipient) (λ value.
     offering s (as_recipient m service value) seed))
 
 -- Select. ACT_RES: the Sender agrees with the seed that it kept, and asks for verification by its check value.
@@ -111,7 +113,7 @@ asking s m = moved (record m { state = st.EstablishedSender }) conf.Nothing m.se
 
 abbrev pub on_act_res : Scheme → Model → List ℕ → Step
 on_act_res s m offer =
-    unless m (agreement s m m.seed offer Sender) (λ value.
+    unless m (agreement s m.means m.seed offer Sender) (λ value.
     asking s (with_secret m value))
 
 -- Established. VFY: the peer's check value is compared, S4; for SCH the link key is derived, S3; the Recipient answers by its own check value.
@@ -134,7 +136,7 @@ linked s m (Err e) = Err e
 
 abbrev pub confirmed : Scheme → Model → Service → Result (Model × ℕ) SuiteFault
 confirmed s m Sse = Ok (record m { state = st.ConfirmedSse }, 0)
-confirmed s m Sch = linked s m (derivation s m)
+confirmed s m Sch = linked s m (derivation s m.means m.secret)
 
 abbrev pub on_vfy_req : Scheme → Model → List ℕ → Step
 on_vfy_req s m payload =

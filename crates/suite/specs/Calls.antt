@@ -18,11 +18,11 @@ adding m kind value = record {
   live = m.live ++ (record { serial = m.newest + 1; kind = kind; value = value } ∷ []);
 }
 
-abbrev pub serial_answer : Meaning → Result (List ℕ) Denial → Result ℕ Denial
+abbrev pub serial_answer : {E : Type 0} → Meaning → Result (List ℕ) E → Result ℕ E
 serial_answer m (Ok v) = Ok (m.newest + 1)
 serial_answer m (Err e) = Err e
 
-abbrev pub after_making : Meaning → KeyKind → Result (List ℕ) Denial → Meaning
+abbrev pub after_making : {E : Type 0} → Meaning → KeyKind → Result (List ℕ) E → Meaning
 after_making m kind (Ok v) = adding m kind v
 after_making m kind (Err e) = m
 

@@ -1,6 +1,5 @@
-ghost use Rattle.std.specs.Prelude.{◌≡◌, ◌≤◌, length, IfErr, IfOk};
-ghost use Rattle.buffers.specs.Buffers.{over};
-ghost use Rattle.protocol.specs.Steps.{on_act_req, on_act_res, asking};
+ghost use Rattle.std.specs.Prelude.{◌≤◌, length};
+ghost use Rattle.protocol.specs.Steps.{Stepped, on_act_req, on_act_res};
 ghost use Rattle.entity.specs.Views.{view};
 
 use super::Entity;
@@ -21,11 +20,7 @@ impl<S: Suite> Entity<S> {
         reply: &mut [u8],
     ) -> Result<Outcome, MachineFault>
         requires { 255 ≤ length reply.old }
-        ensures model { view S.meaning self.new ≡ (on_act_req S.scheme (view S.meaning self.old) service pid offer.now seed.now).model }
-        ensures answer { result ≡ (on_act_req S.scheme (view S.meaning self.old) service pid offer.now seed.now).answer }
-        ensures reply { reply.new ≡ over (on_act_req S.scheme (view S.meaning self.old) service pid offer.now seed.now).reply reply.old }
-        ensures untouched { IfErr result (λ f. reply.new ≡ reply.old) }
-        ensures short { IfOk result (λ o. o.length ≤ 255) }
+        ensures { Stepped (view S.meaning self.old) (on_act_req S.scheme (view S.meaning self.old) service pid offer.now seed.now) (view S.meaning self.new) result reply.old reply.new }
     {
         if pid != S::numbers().pid {
             return Err(self.met(SuiteFault::OtherPid.into()));
@@ -44,40 +39,24 @@ impl<S: Suite> Entity<S> {
         Ok(Outcome::quiet(Confirmation::Nothing, length, made))
     }
 
-    // Select: the peer takes part. The Sender agrees, and asks for verification.
+    // Select: the peer takes part. The Sender agrees, and asks for verification by its check value.
     pub(super) fn on_act_res(
         &mut self,
         offer: &[u8],
         reply: &mut [u8],
     ) -> Result<Outcome, MachineFault>
         requires { 255 ≤ length reply.old }
-        ensures model { view S.meaning self.new ≡ (on_act_res S.scheme (view S.meaning self.old) offer.now).model }
-        ensures answer { result ≡ (on_act_res S.scheme (view S.meaning self.old) offer.now).answer }
-        ensures reply { reply.new ≡ over (on_act_res S.scheme (view S.meaning self.old) offer.now).reply reply.old }
-        ensures untouched { IfErr result (λ f. reply.new ≡ reply.old) }
-        ensures short { IfOk result (λ o. o.length ≤ 255) }
+        ensures { Stepped (view S.meaning self.old) (on_act_res S.scheme (view S.meaning self.old) offer.now) (view S.meaning self.new) result reply.old reply.new }
     {
         let made = met_in(
             self.state,
             agree(&mut self.suite, &self.seed, offer, Role::Sender),
         )?;
-        self.secret = made;
-        self.ask(made, reply)
-    }
-
-    // Asks for verification by the Sender's check value.
-    fn ask(&mut self, made: u32, reply: &mut [u8]) -> Result<Outcome, MachineFault>
-        requires { 255 ≤ length reply.old }
-        ensures model { view S.meaning self.new ≡ (asking S.scheme (view S.meaning self.old) made).model }
-        ensures answer { result ≡ (asking S.scheme (view S.meaning self.old) made).answer }
-        ensures reply { reply.new ≡ over (asking S.scheme (view S.meaning self.old) made).reply reply.old }
-        ensures untouched { IfErr result (λ f. reply.new ≡ reply.old) }
-        ensures short { IfOk result (λ o. o.length ≤ 255) }
-    {
-        let mut scratch = [0; 255];
-        let check = met_in(self.state, self.check_value(Role::Sender, &mut scratch))?;
-        let length = put(self.service, Body::VfyReq(check), reply);
         self.state = State::EstablishedSender;
+        self.secret = made;
+        let mut scratch = [0; 255];
+        let check = self.check_value(Role::Sender, &mut scratch);
+        let length = put(self.service, Body::VfyReq(check), reply);
         Ok(Outcome::quiet(Confirmation::Nothing, length, made))
     }
 }

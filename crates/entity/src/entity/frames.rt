@@ -1,14 +1,15 @@
-ghost use Rattle.std.specs.Prelude.{◌≡◌, ◌%◌, ◌≤◌, length, Ok, IfErr, IfOk};
+ghost use Rattle.std.specs.Prelude.{◌≡◌, ◌%◌, ◌≤◌, length, IfErr, IfOk};
 ghost use Rattle.std.specs.Result.{result_map_both};
-ghost use Rattle.buffers.specs.Buffers.{over};
-ghost use Rattle.frame.specs.Frames.{parts};
+ghost use Rattle.frame.specs.Frames.{fields, parts};
 ghost use Rattle.frame.specs.Reading.{reading};
-ghost use Rattle.protocol.specs.Steps.{heard as heard_step};
-ghost use Rattle.protocol.specs.Calls.{turn, frame as frame_call, blocked, admitted, settle, taken, first_byte};
+ghost use Rattle.protocol.specs.Steps.{Stepped, heard as heard_step};
+ghost use Rattle.protocol.specs.Calls.{Made, frame as frame_call, blocked, admitted};
+ghost use Rattle.entity.specs.Called.{brought};
 ghost use Rattle.entity.specs.Views.{view};
-ghost use Rattle.entity.specs.Results.{heard_parts};
+ghost use Rattle.entity.specs.Results.{heard_parts, machine_result};
 
 use super::Entity;
+use crate::ancillary::Ancillary;
 use crate::bytes::{has_room, sixteen};
 use frame::{Body, CodecFault, Message, ReadError, read};
 use protocol::{Fault, Outcome, Refusal, State, at_message};
@@ -28,7 +29,8 @@ impl<S: Suite> Entity<S> {
 
     // What is heard of a frame, or why it is refused.
     fn admit<'a>(&self, frame: &'a [u8]) -> Result<Result<Message<'a>, CodecFault>, Refusal>
-        ensures { result_map_both heard_parts (λ e. e) result ≡ admitted (view S.meaning self.now) (reading frame.now) }
+        ensures heard { result_map_both heard_parts (λ e. e) result ≡ admitted (view S.meaning self.now) (reading frame.now) }
+        ensures short { IfOk result (λ h. IfOk h (λ m. length (fields (parts m).said) ≤ 254)) }
     {
         match read(frame) {
             Ok(message) if self.blocks(&message) => Err(Refusal::DataHeld),
@@ -39,65 +41,42 @@ impl<S: Suite> Entity<S> {
     }
 
     // The machine's fault becomes the entity's, with the code of the message.
-    fn run(
+    fn hear(
         &mut self,
         sep: u8,
         heard: Result<Message<'_>, CodecFault>,
         seed: &[u8; 16],
         reply: &mut [u8],
     ) -> Result<Outcome, Fault>
-        requires { 255 ≤ length reply.old }
-        ensures model { view S.meaning self.new ≡ (heard_step S.scheme (view S.meaning self.old) seed.now (heard_parts heard.entry)).model }
-        ensures answer { result ≡ result_map_both (λ x. x) (λ f. record { machine = f; message = sep % 16 }) (heard_step S.scheme (view S.meaning self.old) seed.now (heard_parts heard.entry)).answer }
-        ensures reply { reply.new ≡ over (heard_step S.scheme (view S.meaning self.old) seed.now (heard_parts heard.entry)).reply reply.old }
-        ensures untouched { IfErr result (λ f. reply.new ≡ reply.old) }
-        ensures short { IfOk result (λ o. o.length ≤ 255) }
+        requires room { 255 ≤ length reply.old }
+        requires short { IfOk heard (λ m. length (fields (parts m).said) ≤ 254) }
+        ensures step { Stepped (view S.meaning self.old) (heard_step S.scheme (view S.meaning self.old) (record { seed = seed.now }) (heard_parts heard.entry)) (view S.meaning self.new) (machine_result result) reply.old reply.new }
+        ensures message { IfErr result (λ f. f.message ≡ sep % 16) }
     {
-        Ok(at_message(sep % 16, self.hear(heard, seed, reply))?)
+        Ok(at_message(sep % 16, self.step(heard, seed, reply))?)
     }
 
-    // A fault is answered by ERROR.
-    fn settle(
+    /// A frame from the peer, 1 to 255 bytes, with what is brought beside it. The reply, if there is one, is to be sent; its buffer takes at
+    /// least 255 bytes. A fault of the frame is answered by an ERROR and ends the session (confirmation 5).
+    ///
+    /// Refused: 1 (reply buffer), 2 (seed not of 16 bytes), 3 (length of the frame), 4 (a record while data is held).
+    pub fn frame(
         &mut self,
-        sep: u8,
-        heard: Result<Message<'_>, CodecFault>,
-        seed: &[u8; 16],
+        frame: &[u8],
+        beside: Ancillary<'_>,
         reply: &mut [u8],
-    ) -> Outcome
-        requires { 255 ≤ length reply.old }
-        ensures model { view S.meaning self.new ≡ (settle sep (heard_step S.scheme (view S.meaning self.old) seed.now (heard_parts heard.entry))).model }
-        ensures answer { Ok result ≡ (settle sep (heard_step S.scheme (view S.meaning self.old) seed.now (heard_parts heard.entry))).answer }
-        ensures reply { reply.new ≡ over (settle sep (heard_step S.scheme (view S.meaning self.old) seed.now (heard_parts heard.entry))).reply reply.old }
-        ensures short { result.length ≤ 255 }
+    ) -> Result<Outcome, Refusal>
+        ensures { Made S.scheme (view S.meaning self.old) (frame_call frame.now (brought beside.entry) (length reply.old)) (view S.meaning self.new) result reply.old reply.new }
     {
-        match self.run(sep, heard, seed, reply) {
-            Ok(outcome) => outcome,
-            Err(fault) => self.fail(sep, fault, reply),
-        }
-    }
-
-    fn take(&mut self, frame: &[u8], seed: &[u8; 16], reply: &mut [u8]) -> Result<Outcome, Refusal>
-        requires { 255 ≤ length reply.old }
-        ensures model { view S.meaning self.new ≡ (taken S.scheme (view S.meaning self.old) seed.now (first_byte frame.now) (admitted (view S.meaning self.old) (reading frame.now))).model }
-        ensures answer { result ≡ (taken S.scheme (view S.meaning self.old) seed.now (first_byte frame.now) (admitted (view S.meaning self.old) (reading frame.now))).answer }
-        ensures reply { reply.new ≡ over (taken S.scheme (view S.meaning self.old) seed.now (first_byte frame.now) (admitted (view S.meaning self.old) (reading frame.now))).reply reply.old }
-        ensures short { IfOk result (λ o. o.length ≤ 255) }
-    {
+        has_room(reply)?;
+        let seed = sixteen(beside.seed)?;
         let [sep, ..] = frame else {
             return Err(Refusal::FrameLength);
         };
         let heard = self.admit(frame)?;
-        Ok(self.settle(*sep, heard, seed, reply))
-    }
-
-    // A frame from the peer. The seed is for an ACT_REQ; the reply, if there is one, is to be sent.
-    pub fn frame(&mut self, frame: &[u8], seed: &[u8], reply: &mut [u8]) -> Result<Outcome, Refusal>
-        ensures model { view S.meaning self.new ≡ (turn S.scheme (view S.meaning self.old) (frame_call frame.now seed.now (length reply.old))).model }
-        ensures answer { result ≡ (turn S.scheme (view S.meaning self.old) (frame_call frame.now seed.now (length reply.old))).answer }
-        ensures reply { reply.new ≡ over (turn S.scheme (view S.meaning self.old) (frame_call frame.now seed.now (length reply.old))).reply reply.old }
-        ensures short { IfOk result (λ o. o.length ≤ 255) }
-    {
-        has_room(reply)?;
-        self.take(frame, sixteen(seed)?, reply)
+        match self.hear(*sep, heard, seed, reply) {
+            Ok(outcome) => Ok(outcome),
+            Err(fault) => Ok(self.fail(*sep, fault, reply)),
+        }
     }
 }

@@ -1,8 +1,10 @@
-ghost use Rattle.std.specs.Prelude.{◌≡◌, [], replicate, ◌≤◌, IfOk};
-ghost use Rattle.protocol.specs.Steps.{record_length, sequenced, on_enc};
+ghost use Rattle.std.specs.Prelude.{◌≡◌, ◌≤◌, true, [], length, replicate};
+ghost use Rattle.protocol.specs.Models.{has_link};
+ghost use Rattle.protocol.specs.Steps.{Stepped, record_length, sequenced, on_enc};
 ghost use Rattle.entity.specs.Views.{view};
 
 use super::Entity;
+use crate::bytes::wipe;
 use crate::held::Held;
 use protocol::{Cause, Confirmation, MachineFault, Outcome, SuiteFault, met_in};
 use suite::Suite;
@@ -37,9 +39,9 @@ impl<S: Suite> Entity<S> {
 
     // Opens a record in the lent bytes, and keeps its data if it is a new one.
     fn enter(&mut self, payload: &[u8], scratch: &mut [u8; 255]) -> Result<Outcome, MachineFault>
-        ensures model { view S.meaning self.new ≡ (on_enc S.scheme (view S.meaning self.old) payload.now).model }
-        ensures answer { result ≡ (on_enc S.scheme (view S.meaning self.old) payload.now).answer }
-        ensures short { IfOk result (λ o. o.length ≤ 255) }
+        requires state { has_link self.old.state ≡ true }
+        requires payload { length payload.now ≤ 254 }
+        ensures { Stepped (view S.meaning self.old) (on_enc S.scheme (view S.meaning self.old) payload.now) (view S.meaning self.new) result [] [] }
     {
         let opened = met_in(self.state, self.open(payload, scratch))?;
         if !met_in(self.state, self.is_next(opened))? {
@@ -57,22 +59,21 @@ impl<S: Suite> Entity<S> {
         payload: &[u8],
         scratch: &mut [u8; 255],
     ) -> Result<Outcome, MachineFault>
-        ensures model { view S.meaning self.new ≡ (on_enc S.scheme (view S.meaning self.old) payload.now).model }
-        ensures answer { result ≡ (on_enc S.scheme (view S.meaning self.old) payload.now).answer }
+        requires state { has_link self.old.state ≡ true }
+        requires payload { length payload.now ≤ 254 }
+        ensures step { Stepped (view S.meaning self.old) (on_enc S.scheme (view S.meaning self.old) payload.now) (view S.meaning self.new) result [] [] }
         ensures cleared { scratch.new ≡ replicate 255 0 }
-        ensures short { IfOk result (λ o. o.length ≤ 255) }
     {
         let entered = self.enter(payload, scratch);
-        scratch.fill(0);
+        wipe(scratch);
         entered
     }
 
     // Confirmed_SCH: a record. It is never answered by a frame, but by an ERROR.
     pub(super) fn on_enc(&mut self, payload: &[u8]) -> Result<Outcome, MachineFault>
-        ensures model { view S.meaning self.new ≡ (on_enc S.scheme (view S.meaning self.old) payload.now).model }
-        ensures answer { result ≡ (on_enc S.scheme (view S.meaning self.old) payload.now).answer }
-        ensures silent { (on_enc S.scheme (view S.meaning self.old) payload.now).reply ≡ [] }
-        ensures short { IfOk result (λ o. o.length ≤ 255) }
+        requires state { has_link self.old.state ≡ true }
+        requires payload { length payload.now ≤ 254 }
+        ensures { Stepped (view S.meaning self.old) (on_enc S.scheme (view S.meaning self.old) payload.now) (view S.meaning self.new) result [] [] }
     {
         self.enter_cleanly(payload, &mut [0; 255])
     }

@@ -1,70 +1,58 @@
-ghost use Rattle.std.specs.Prelude.{◌≡◌, ◌+◌, ◌<◌, ◌≤◌, cond, not, length, replicate, Ok, Err, IfOk};
+ghost use Rattle.std.specs.Prelude.{◌≡◌, ◌<◌, ◌≤◌, true, length, is_some, IfOk};
 ghost use Rattle.std.specs.Result.{result_map_both};
 ghost use Rattle.suite.specs.declared.types.KeyKind.TheVariants.{SharedSecret, LinkKey};
-ghost use Rattle.suite.specs.Numbers.{role_byte};
-ghost use Rattle.suite.specs.Calls.{agreed, derived, sealed, serial_answer, after_making};
-ghost use Rattle.protocol.specs.declared.faults.SuiteFault.TheVariants.{NoKey};
-ghost use Rattle.protocol.specs.Steps.{faulty, agree_fault, check_value, opened_record};
+ghost use Rattle.suite.specs.Meanings.{keyring_of, value_in};
+ghost use Rattle.suite.specs.Calls.{serial_answer, after_making};
+ghost use Rattle.protocol.specs.Models.{has_secret, has_link};
+ghost use Rattle.protocol.specs.Steps.{agreement, derivation, check_value, sealed_record, opened_record};
 ghost use Rattle.entity.specs.Views.{view};
-ghost use Rattle.entity.specs.Results.{payload_shown, record_shown};
+ghost use Rattle.entity.specs.Results.{record_shown};
 
 use super::Entity;
-use protocol::{Refusal, SuiteFault};
+use protocol::SuiteFault;
 use suite::{Denial, Role, Suite};
 
-// What is asked of the suite, and what a denial of it comes to. What is written lies in the front of the lent bytes.
-
-fn agree_fault(denial: Denial) -> SuiteFault
-    ensures { result ≡ agree_fault denial }
-{
-    match denial {
-        Denial::Spent => SuiteFault::NoKey,
-        _ => SuiteFault::BadOffer,
-    }
-}
+// What is asked of the suite. Every key that is asked for is live, and all else is within the suite's limits, so it denies nothing but what is a
+// fault of the protocol. What is written lies in the front of the lent bytes.
 
 impl<S: Suite> Entity<S> {
     pub(super) fn offer<'a>(&self, seed: &[u8; 16], scratch: &'a mut [u8; 255]) -> &'a [u8]
-        ensures offer { result.now ≡ S.scheme.offer_of (S.meaning self.now.suite).root seed.now }
+        ensures offer { result.now ≡ S.scheme.offer_of (keyring_of (S.meaning self.now.suite)) seed.now }
         ensures short { length result.now ≤ 64 }
     {
         let n = self.suite.offer(seed, scratch).unwrap();
         &scratch[..n]
     }
 
-    pub(super) fn check_value<'a>(
-        &self,
-        role: Role,
-        scratch: &'a mut [u8; 255],
-    ) -> Result<&'a [u8], SuiteFault>
-        ensures value { result_map_both (λ x. x.now) (λ e. e) result ≡ check_value S.scheme (view S.meaning self.now) role }
-        ensures short { IfOk result (λ x. length x.now ≤ 32) }
+    pub(super) fn check_value<'a>(&self, role: Role, scratch: &'a mut [u8; 255]) -> &'a [u8]
+        requires { has_secret self.now.state ≡ true }
+        ensures value { result.now ≡ check_value S.scheme (view S.meaning self.now) role }
+        ensures short { length result.now ≤ 32 }
     {
-        match self.suite.check(self.secret, role.byte(), scratch) {
-            Ok(n) => Ok(&scratch[..n]),
-            Err(_) => Err(SuiteFault::WrongCheck),
-        }
+        let n = self
+            .suite
+            .check(self.secret, role.byte(), scratch)
+            .unwrap();
+        &scratch[..n]
     }
 
-    // A denial is met in no run: the link key is live, and what it is asked for is within the limits.
     pub(super) fn seal<'a>(
         &self,
         number: u32,
         plain: &[u8],
         scratch: &'a mut [u8; 255],
-    ) -> Result<&'a [u8], Refusal>
+    ) -> &'a [u8]
+        requires state { has_link self.now.state ≡ true }
         requires data { length plain.now ≤ 200 }
         requires number { number < 16777216 }
-        ensures payload { result_map_both (λ x. x.now) (λ e. e) result ≡ payload_shown (sealed S.scheme (S.meaning self.now.suite) self.now.link (role_byte self.now.role) number plain.now 255) }
-        ensures short { IfOk result (λ x. length x.now ≤ 232) }
+        ensures payload { result.now ≡ sealed_record S.scheme (view S.meaning self.now) number plain.now }
+        ensures short { length result.now ≤ 232 }
     {
-        match self
+        let n = self
             .suite
             .seal(self.link, self.role.byte(), number, plain, scratch)
-        {
-            Ok(n) => Ok(&scratch[..n]),
-            Err(_) => Err(Refusal::WrongState),
-        }
+            .unwrap();
+        &scratch[..n]
     }
 
     // Role, number and data length of a good payload, whose data lies in the front of the lent bytes.
@@ -73,13 +61,15 @@ impl<S: Suite> Entity<S> {
         payload: &[u8],
         scratch: &mut [u8; 255],
     ) -> Result<(u8, u32, usize), SuiteFault>
+        requires state { has_link self.now.state ≡ true }
+        requires payload { length payload.now ≤ 254 }
         ensures record { record_shown result scratch.new ≡ opened_record S.scheme (view S.meaning self.now) payload.now }
         ensures fits { IfOk result (λ t. t.2 ≤ 255) }
     {
-        match self.suite.open(self.link, payload, scratch) {
-            Ok(Some(opened)) => Ok(opened),
-            _ => Err(SuiteFault::BadRecord),
-        }
+        self.suite
+            .open(self.link, payload, scratch)
+            .unwrap()
+            .ok_or(SuiteFault::BadRecord)
     }
 }
 
@@ -90,16 +80,22 @@ pub(super) fn agree<S: Suite>(
     offer: &[u8],
     role: Role,
 ) -> Result<u32, SuiteFault>
-    ensures answer { result ≡ faulty agree_fault (serial_answer (S.meaning suite.old) (agreed S.scheme (S.meaning suite.old) seed.now offer.now (role_byte role))) }
-    ensures after { S.meaning suite.new ≡ after_making (S.meaning suite.old) SharedSecret (agreed S.scheme (S.meaning suite.old) seed.now offer.now (role_byte role)) }
+    ensures answer { result ≡ serial_answer (S.meaning suite.old) (agreement S.scheme (S.meaning suite.old) seed.now offer.now role) }
+    ensures after { S.meaning suite.new ≡ after_making (S.meaning suite.old) SharedSecret (agreement S.scheme (S.meaning suite.old) seed.now offer.now role) }
 {
-    suite.agree(seed, offer, role.byte()).map_err(agree_fault)
+    suite
+        .agree(seed, offer, role.byte())
+        .map_err(|denial| match denial {
+            Denial::BadOffer => SuiteFault::BadOffer,
+            _ => SuiteFault::NoKey,
+        })
 }
 
-// Makes a link key.
+// Makes a link key of a live shared secret.
 pub(super) fn derive<S: Suite>(suite: &mut S, secret: u32) -> Result<u32, SuiteFault>
-    ensures answer { result ≡ faulty (λ e. NoKey) (serial_answer (S.meaning suite.old) (derived S.scheme (S.meaning suite.old) secret)) }
-    ensures after { S.meaning suite.new ≡ after_making (S.meaning suite.old) LinkKey (derived S.scheme (S.meaning suite.old) secret) }
+    requires { is_some (value_in (S.meaning suite.old).live SharedSecret secret) ≡ true }
+    ensures answer { result ≡ serial_answer (S.meaning suite.old) (derivation S.scheme (S.meaning suite.old) secret) }
+    ensures after { S.meaning suite.new ≡ after_making (S.meaning suite.old) LinkKey (derivation S.scheme (S.meaning suite.old) secret) }
 {
     suite.derive(secret).map_err(|_| SuiteFault::NoKey)
 }

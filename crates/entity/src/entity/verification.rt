@@ -1,7 +1,7 @@
-ghost use Rattle.std.specs.Prelude.{◌≡◌, ◌≤◌, length, IfErr, IfOk};
+ghost use Rattle.std.specs.Prelude.{◌≡◌, ◌≤◌, true, length, []};
 ghost use Rattle.std.specs.Str.{bytes_eq};
-ghost use Rattle.buffers.specs.Buffers.{over};
-ghost use Rattle.protocol.specs.Steps.{verified, confirmed, on_vfy_req, on_vfy_res};
+ghost use Rattle.protocol.specs.Models.{has_secret};
+ghost use Rattle.protocol.specs.Steps.{Stepped, verified, confirmed, on_vfy_req, on_vfy_res};
 ghost use Rattle.entity.specs.Views.{view};
 ghost use Rattle.entity.specs.Results.{made_for, model_after};
 
@@ -15,10 +15,11 @@ use suite::{Role, Suite};
 impl<S: Suite> Entity<S> {
     // Compares the peer's check value with that of its role.
     fn verify(&self, role: Role, payload: &[u8]) -> Result<(), SuiteFault>
+        requires { has_secret self.now.state ≡ true }
         ensures { result ≡ verified S.scheme (view S.meaning self.now) role payload.now }
     {
         let mut scratch = [0; 255];
-        if payload == self.check_value(role, &mut scratch)? {
+        if payload == self.check_value(role, &mut scratch) {
             Ok(())
         } else {
             Err(SuiteFault::WrongCheck)
@@ -27,6 +28,7 @@ impl<S: Suite> Entity<S> {
 
     // Puts the service into effect, and answers the serial of the key made for it: SSE needs none.
     fn confirm(&mut self) -> Result<u32, SuiteFault>
+        requires { has_secret self.old.state ≡ true }
         ensures model { view S.meaning self.new ≡ model_after (view S.meaning self.old) (confirmed S.scheme (view S.meaning self.old) self.old.service) }
         ensures answer { result ≡ made_for (confirmed S.scheme (view S.meaning self.old) self.old.service) }
     {
@@ -50,17 +52,14 @@ impl<S: Suite> Entity<S> {
         payload: &[u8],
         reply: &mut [u8],
     ) -> Result<Outcome, MachineFault>
-        requires { 255 ≤ length reply.old }
-        ensures model { view S.meaning self.new ≡ (on_vfy_req S.scheme (view S.meaning self.old) payload.now).model }
-        ensures answer { result ≡ (on_vfy_req S.scheme (view S.meaning self.old) payload.now).answer }
-        ensures reply { reply.new ≡ over (on_vfy_req S.scheme (view S.meaning self.old) payload.now).reply reply.old }
-        ensures untouched { IfErr result (λ f. reply.new ≡ reply.old) }
-        ensures short { IfOk result (λ o. o.length ≤ 255) }
+        requires state { has_secret self.old.state ≡ true }
+        requires room { 255 ≤ length reply.old }
+        ensures { Stepped (view S.meaning self.old) (on_vfy_req S.scheme (view S.meaning self.old) payload.now) (view S.meaning self.new) result reply.old reply.new }
     {
         let state = self.state;
         met_in(state, self.verify(Role::Sender, payload))?;
         let mut scratch = [0; 255];
-        let own = met_in(state, self.check_value(Role::Recipient, &mut scratch))?;
+        let own = self.check_value(Role::Recipient, &mut scratch);
         let made = met_in(state, self.confirm())?;
         let length = put(self.service, Body::VfyRes(own), reply);
         Ok(Outcome::quiet(Confirmation::Established, length, made))
@@ -68,9 +67,8 @@ impl<S: Suite> Entity<S> {
 
     // Established_Sender: the Sender compares.
     pub(super) fn on_vfy_res(&mut self, payload: &[u8]) -> Result<Outcome, MachineFault>
-        ensures model { view S.meaning self.new ≡ (on_vfy_res S.scheme (view S.meaning self.old) payload.now).model }
-        ensures answer { result ≡ (on_vfy_res S.scheme (view S.meaning self.old) payload.now).answer }
-        ensures short { IfOk result (λ o. o.length ≤ 255) }
+        requires { has_secret self.old.state ≡ true }
+        ensures { Stepped (view S.meaning self.old) (on_vfy_res S.scheme (view S.meaning self.old) payload.now) (view S.meaning self.new) result [] [] }
     {
         let state = self.state;
         met_in(state, self.verify(Role::Recipient, payload))?;

@@ -1,9 +1,11 @@
-use Rattle.std.proofs.Common.{length, arith, length-take}
+-- A check value is short, by the suite's law.
+use Rattle.std.proofs.Common.{rules, ◌≤◌, length, arith, length-take}
 use Rattle.entity.proofs.Lengths.{check_short}
 use Rattle.entity.proofs.entity.Entity.check_value.Goals as goal
 
-pub returns-in-Ok-clause-short : goal.returns-in-Ok-clause-short
-returns-in-Ok-clause-short g c =
-    let s = c.args.self.now.suite in
-    let b = check_short g.S.Suite.scheme (g.S.Suite.meaning s) c.args.self.now.secret c.byte.result (length c.args.scratch.now) c.in-Ok.n g.met.S.Suite.lawful (g.met.S.Suite.formed s) c.in-Ok.ensures.answer in
-    omega (arith, length-take c.in-Ok.n c.check.new.out)
+pub returns-clause-short : goal.returns-clause-short
+returns-clause-short g c =
+    let e = c.args.self.now in
+    let room = c.told-scratch in
+    let short : c.unwrap-n.result ≤ 32 = check_short g.S.Suite.scheme (g.S.Suite.meaning e.suite) e.secret c.args.role (length c.args.scratch.now) c.unwrap-n.result g.met.S.Suite.lawful (g.met.S.Suite.formed e.suite) (e.keys.secret_live c.requires) (omega arith) (search rules) in
+    omega (arith, length-take c.unwrap-n.result c.check.new.out)

@@ -1,9 +1,11 @@
-use Rattle.std.proofs.Common.{◌≤◌, length, arith}
-use Rattle.entity.proofs.Lengths.{reveal_short}
+-- The secret has sixteen bytes.
+use Rattle.std.proofs.Common.{rules, ap}
+use Rattle.protocol.specs.Models.{has_secret}
+use Rattle.entity.proofs.Lengths.{secret_long}
 use Rattle.entity.proofs.entity.Entity.retrieve_secret.Goals as goal
 
-pub returns-in-Ok-clause-short : goal.returns-in-Ok-clause-short
-returns-in-Ok-clause-short g c =
-    let s = c.args.self.now.suite in
-    let b = reveal_short (g.S.Suite.meaning s) c.args.self.now.secret (length c.args.out.now) c.in-Ok.length (g.met.S.Suite.formed s) c.in-Ok.ensures.answer in
-    rw c.quiet.ensures (omega arith)
+pub returns-else-out-lt16 : goal.returns-else-out-lt16
+returns-else-out-lt16 g c =
+    let e = c.args.self.now in
+    let long = secret_long (g.S.Suite.meaning e.suite) e.secret (g.met.S.Suite.formed e.suite) (e.keys.secret_live (ap has_secret c.in-ConfirmedSse.is)) in
+    record { model = search rules; answer = search rules; buffer = search rules; within = search rules; short = search rules }

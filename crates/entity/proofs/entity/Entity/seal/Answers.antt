@@ -1,9 +1,11 @@
-use Rattle.std.proofs.Common.{length, arith, length-take}
+-- A payload is short, by the suite's law.
+use Rattle.std.proofs.Common.{rules, ◌≤◌, length, arith, length-take}
 use Rattle.entity.proofs.Lengths.{seal_short}
 use Rattle.entity.proofs.entity.Entity.seal.Goals as goal
 
-pub returns-in-Ok-clause-short : goal.returns-in-Ok-clause-short
-returns-in-Ok-clause-short g c =
-    let s = c.args.self.now.suite in
-    let b = seal_short g.S.Suite.scheme (g.S.Suite.meaning s) c.args.self.now.link c.byte.result c.args.number (length c.args.scratch.now) c.in-Ok.n c.args.plain.now g.met.S.Suite.lawful (g.met.S.Suite.formed s) c.requires.data c.in-Ok.ensures.answer in
-    omega (arith, length-take c.in-Ok.n c.seal.new.out)
+pub returns-clause-short : goal.returns-clause-short
+returns-clause-short g c =
+    let e = c.args.self.now in
+    let room = c.told-scratch in
+    let short : c.unwrap-n.result ≤ 232 = seal_short g.S.Suite.scheme (g.S.Suite.meaning e.suite) e.link e.role c.args.number (length c.args.scratch.now) c.unwrap-n.result c.args.plain.now g.met.S.Suite.lawful (g.met.S.Suite.formed e.suite) (e.keys.link_live c.requires.state) c.requires.data (omega arith) (omega arith) (search rules) in
+    omega (arith, length-take c.unwrap-n.result c.seal.new.out)

@@ -1,0 +1,34 @@
+ghost use Rattle.std.specs.Prelude.{length};
+ghost use Rattle.protocol.specs.Calls.{Made};
+ghost use Rattle.entity.specs.Called.{called};
+ghost use Rattle.entity.specs.Views.{view};
+
+use super::Entity;
+use crate::call::Call;
+use crate::slip::Slip;
+use protocol::{Outcome, Refusal};
+use suite::Suite;
+
+impl<S: Suite> Entity<S> {
+    /// Makes a call as a log has it, with a buffer that it may write. The slip is shown where the call retrieves the secret.
+    ///
+    /// Refused as the call itself is.
+    pub fn call(
+        &mut self,
+        call: &Call<'_>,
+        slip: &Slip,
+        buffer: &mut [u8],
+    ) -> Result<Outcome, Refusal>
+        ensures { Made S.scheme (view S.meaning self.old) (called call.now (length buffer.old)) (view S.meaning self.new) result buffer.old buffer.new }
+    {
+        match *call {
+            Call::Invoke { service, pid, seed } => self.invoke(service, pid, seed, buffer),
+            Call::Send { plain } => self.send(plain, buffer),
+            Call::RetrieveData => self.retrieve_data(buffer),
+            Call::RetrieveSecret => self.retrieve_secret(slip, buffer),
+            Call::Terminate => self.terminate(buffer),
+            Call::Frame { bytes, beside } => self.frame(bytes, beside, buffer),
+            Call::Release => Ok(self.release()),
+        }
+    }
+}
