@@ -45,10 +45,12 @@ kept_formed root s h =
     let a = s.first in
     let b = s.second in
     record {
-      root = h;
-      last = lit< tt;
+      keyring = record {
+        root = h;
+        values = All-append (λ k. Bytes16 k.value) (key_in a) (key_in b) (value_of a) (value_of b);
+        serials = All-append (λ k. P k.serial) (key_in a) (key_in b) (serials_of P a.label a.value s.firsts) (serials_of P b.label b.value s.seconds);
+        apart = apart_from a.label b.label a.value b.value s.ordered;
+      };
       newest = omega (arith, s.fits);
-      values = All-append (λ k. Bytes16 k.value) (key_in a) (key_in b) (value_of a) (value_of b);
-      serials = All-append (λ k. P k.serial) (key_in a) (key_in b) (serials_of P a.label a.value s.firsts) (serials_of P b.label b.value s.seconds);
-      apart = apart_from a.label b.label a.value b.value s.ordered;
+      last = lit< tt;
     }
