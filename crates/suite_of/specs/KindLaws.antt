@@ -2,10 +2,12 @@
 use Rattle.std.specs.Prelude.{◌≡◌, ℕ, ◌+◌, ◌≤◌, List, length}
 use Rattle.std.proofs.Common.{arith, lit≤}
 use Rattle.std.proofs.lemmas.Bool.{eq-eqb, eqb-true}
-use Rattle.suite.specs.Meanings.{Bytes, Bytes16}
-use Rattle.suite.specs.Schemes.{Lawful}
+use Rattle.suite.specs.declared.types.Role.TheVariants.{Sender, Recipient}
+use Rattle.suite.specs.Meanings.{Bytes, Bytes16, Keyring}
+use Rattle.suite.specs.Numbers.{role_byte}
+use Rattle.suite.specs.Schemes.{Lawful, Under}
 use Rattle.suite_of.specs.Kinds.{Functions, scheme_of, Sound}
-use Rattle.suite_of.specs.Payloads.{body_of}
+use Rattle.suite_of.specs.Payloads.{body_of, closed}
 use Rattle.suite_of.specs.PayloadLaws.{closed-length, closed-bytes, body-length, reads_back}
 
 fit_is : (offer : List ℕ) → length offer ≡ 16 → Bytes offer → Bytes16 offer
@@ -22,23 +24,31 @@ lawful_of k s =
       overhead_bound = omega arith;
       first_below = s.final_low;
       final_bound = s.final_bound;
-      offer_long = λ root seed r e. e.long;
-      offer_bytes = λ root seed r e. e.bytes;
-      secret_is = λ root seed offer serial role r e o ok f. s.secret_is root seed offer role r e (fit_is offer (eqb-true (length offer) 16 f) o) ok;
-      check_long = λ root value serial role r v ok. s.check_long value role v ok;
-      check_bytes = λ root value serial role r v ok. s.check_bytes value role v ok;
-      link_is = λ root value serial link r v. s.link_is value v;
-      seal_bytes = λ root value plain serial role n r v ok can. closed-bytes (k.stream_of value role n) (k.field_of value) role n plain (λ i. s.stream_byte value role n i v) (s.field_bytes value _ v) ok can.bytes;
-      fits = λ root seed r e. eq-eqb (length seed) 16 e.long;
-      agrees = λ root one other serial serial' r p q. s.agrees root one other r p q;
-      opens = λ root root' value plain serial serial' role n r r' v ok can. reads_back k.field_length (k.field_of value) (k.stream_of value) role n plain (s.field_long value _ v) ok (most can.high);
-      seal_long = λ root value plain serial role n r v ok. sealed-length value role n plain v;
+      offer_long = λ keyring seed f e. e.long;
+      offer_bytes = λ keyring seed f e. e.bytes;
+      secret_is = λ keyring seed offer role f e o ok fit. s.secret_is keyring.root seed offer role f.root e (fit_is offer (eqb-true (length offer) 16 fit) o) ok;
+      check_long = λ keyring value serial role f v ok. s.check_long value role v ok;
+      check_bytes = λ keyring value serial role f v ok. s.check_bytes value role v ok;
+      link_is = λ keyring value serial f v. s.link_is value v;
+      seal_bytes = λ keyring value plain serial role n f v ok can. closed-bytes (k.stream_of value role n) (k.field_of value) role n plain (λ i. s.stream_byte value role n i v) (s.field_bytes value _ v) ok can.bytes;
+      fits = λ root keyring keyring' seed u u' e. eq-eqb (length seed) 16 e.long;
+      agrees = λ root keyring keyring' j j' one other u u' w w' p q. equal_secrets root keyring keyring' one other u u' p q;
+      opens = λ keyring keyring' value plain serial serial' role n f f' v ok can. reads_back k.field_length (k.field_of value) (k.stream_of value) role n plain (s.field_long value _ v) ok (most can.high);
+      seal_long = λ keyring value plain serial role n f v ok. sealed-length value role n plain v;
     }
   where
     most : {n : ℕ} → n ≤ k.final → n ≤ 16777215
     most h = let b = s.final_bound in omega arith
 
-    sealed-length : (value : List ℕ) (role n : ℕ) (plain : List ℕ) → Bytes16 value → length ((scheme_of k).seal_of value 0 value role n plain) ≡ length plain + (5 + k.field_length)
+    -- the two peers' secrets, their suites under one root
+    equal_secrets : (root : List ℕ) (keyring keyring' : Keyring) (one other : List ℕ) → Under root keyring → Under root keyring' → Bytes16 one → Bytes16 other → k.secret_of keyring.root (role_byte Sender) one other ≡ k.secret_of keyring'.root (role_byte Recipient) other one
+    equal_secrets root keyring keyring' one other u u' p q =
+        let e = s.agrees keyring.root one other u.formed.root p q in
+        let same = u.same in
+        let same' = u'.same in
+        cc
+
+    sealed-length : (value : List ℕ) (role n : ℕ) (plain : List ℕ) → Bytes16 value → length (closed (k.field_of value) (body_of (k.stream_of value role n) role n plain)) ≡ length plain + (5 + k.field_length)
     sealed-length value role n plain v =
         let body = body_of (k.stream_of value role n) role n plain in
         let c = closed-length (k.field_of value) k.field_length body (s.field_long value body v) in

@@ -24,6 +24,7 @@ pub record Functions : Type 0 where
   -- value of the link key, all of a payload but its field
   pub field_of : List ℕ → List ℕ → List ℕ
 
+-- the kind's numbers and functions: of all that the suite means they see the root alone, and of a key its value
 abbrev pub scheme_of : Functions → Scheme
 scheme_of k = record {
   pid = k.pid;
@@ -32,13 +33,13 @@ scheme_of k = record {
   overhead = 5 + k.field_length;
   first = 0;
   final = k.final;
-  offer_of = λ root seed. seed;
-  fit_of = λ root offer. (length offer == 16);
-  secret_of = λ root serial role seed offer. k.secret_of root role seed offer;
-  check_of = λ root serial value role. k.check_of value role;
-  link_of = λ root serial value link. k.link_of value;
-  seal_of = λ root serial key role n plain. closed (k.field_of key) (body_of (k.stream_of key role n) role n plain);
-  open_of = λ root serial key p. read_of k.field_length (k.field_of key) (k.stream_of key) p;
+  offer_of = λ keyring seed. seed;
+  fit_of = λ keyring offer. (length offer == 16);
+  secret_of = λ keyring role seed offer. k.secret_of keyring.root role seed offer;
+  check_of = λ keyring serial value role. k.check_of value role;
+  link_of = λ keyring serial value. k.link_of value;
+  seal_of = λ keyring serial value role n plain. closed (k.field_of value) (body_of (k.stream_of value role n) role n plain);
+  open_of = λ keyring serial value payload. read_of k.field_length (k.field_of value) (k.stream_of value) payload;
 }
 
 -- what a kind owes, for roots, seeds and values of sixteen bytes
