@@ -9,10 +9,7 @@ limited-formed m k w =
     let low = w.last in
     let most = w.newest in
     record {
-      root = w.root;
-      last = omega arith;
+      keyring = w.keyring;
       newest = omega arith;
-      values = w.values;
-      serials = w.serials;
-      apart = w.apart;
+      last = omega arith;
     }
