@@ -5,7 +5,7 @@ ghost use Rattle.suite.specs.Meanings.{value_in, with_last};
 ghost use Rattle.quota.specs.Allowances.{limited, quota_meaning, keys_made};
 ghost use Rattle.quota.specs.AllowanceLaws.{limited-formed};
 
-use suite::{Denial, Layer, Role, Suite};
+use suite::{Denial, HasMeaning, Layer, Role, Suite};
 
 // A suite with an allowance of further keys.
 pub struct Quota<S> {
@@ -70,11 +70,13 @@ impl<S: Suite> Quota<S> {
     }
 }
 
+impl<S: HasMeaning> HasMeaning for Quota<S> {
+    ghost meaning = { quota_meaning S.meaning };
+}
+
 // Beside what every layer promises: what the suite below means after, and what is left of the allowance.
 impl<S: Suite> Layer for Quota<S> {
     type Below = S;
-
-    ghost meaning = { quota_meaning S.meaning };
 
     ghost made = { λ x kind value result y. (S.meaning y.below ≡ after_making (S.meaning x.below) kind value) × (y.left + keys_made result ≡ x.left) };
 

@@ -2,17 +2,15 @@ ghost use Rattle.std.specs.Prelude.{◌≡◌, ℕ, List, Result};
 ghost use Rattle.suite.specs.declared.types.Denial.{Denial};
 ghost use Rattle.suite.specs.declared.types.KeyKind.{KeyKind};
 ghost use Rattle.suite.specs.declared.types.KeyKind.TheVariants.{SharedSecret, LinkKey};
-ghost use Rattle.suite.specs.Meanings.{Meaning, WellFormed, with_last};
+ghost use Rattle.suite.specs.Meanings.{WellFormed, with_last};
 ghost use Rattle.suite.specs.Calls.{agreed, derived, serial_answer, after_making, destroy_answer, after_destroy};
 
-use super::suite_trait::Suite;
+use super::suite_trait::{HasMeaning, Suite};
 use super::types::{Denial, KindNumbers};
 
 // A suite over another. What changes its keys goes through it, and all else is asked of the suite below.
-pub trait Layer {
+pub trait Layer: HasMeaning {
     type Below: Suite;
-
-    ghost meaning: { Self → Meaning };
 
     // What else a layer promises of a making, by the key's value and the answer, and of a destroying.
     ghost made: { Self → KeyKind → Result (List ℕ) Denial → Result ℕ Denial → Self → Type 0 };
@@ -21,33 +19,31 @@ pub trait Layer {
 
     // In all but the last serial a layer means what the suite below it means.
     fn below(&self) -> &Self::Below
-        ensures { meaning self.now ≡ with_last (Self.Below.meaning result.now) (meaning self.now).last };
+        ensures { Self.meaning self.now ≡ with_last (Self.Below.meaning result.now) (Self.meaning self.now).last };
 
     fn last_through(&self) -> u32
-        ensures { result ≡ (meaning self.now).last };
+        ensures { result ≡ (Self.meaning self.now).last };
 
     fn agree_through(&mut self, seed: &[u8], offer: &[u8], role: u8) -> Result<u32, Denial>
-        ensures answer { result ≡ serial_answer (meaning self.old) (agreed Self.Below.scheme (meaning self.old) seed.now offer.now role) }
-        ensures after { meaning self.new ≡ after_making (meaning self.old) SharedSecret (agreed Self.Below.scheme (meaning self.old) seed.now offer.now role) }
-        ensures made { made self.old SharedSecret (agreed Self.Below.scheme (meaning self.old) seed.now offer.now role) result self.new };
+        ensures answer { result ≡ serial_answer (Self.meaning self.old) (agreed Self.Below.scheme (Self.meaning self.old) seed.now offer.now role) }
+        ensures after { Self.meaning self.new ≡ after_making (Self.meaning self.old) SharedSecret (agreed Self.Below.scheme (Self.meaning self.old) seed.now offer.now role) }
+        ensures made { made self.old SharedSecret (agreed Self.Below.scheme (Self.meaning self.old) seed.now offer.now role) result self.new };
 
     fn derive_through(&mut self, key: u32) -> Result<u32, Denial>
-        ensures answer { result ≡ serial_answer (meaning self.old) (derived Self.Below.scheme (meaning self.old) key) }
-        ensures after { meaning self.new ≡ after_making (meaning self.old) LinkKey (derived Self.Below.scheme (meaning self.old) key) }
-        ensures made { made self.old LinkKey (derived Self.Below.scheme (meaning self.old) key) result self.new };
+        ensures answer { result ≡ serial_answer (Self.meaning self.old) (derived Self.Below.scheme (Self.meaning self.old) key) }
+        ensures after { Self.meaning self.new ≡ after_making (Self.meaning self.old) LinkKey (derived Self.Below.scheme (Self.meaning self.old) key) }
+        ensures made { made self.old LinkKey (derived Self.Below.scheme (Self.meaning self.old) key) result self.new };
 
     fn destroy_through(&mut self, key: u32) -> Result<(), Denial>
-        ensures answer { result ≡ destroy_answer (meaning self.old) key }
-        ensures after { meaning self.new ≡ after_destroy (meaning self.old) key }
+        ensures answer { result ≡ destroy_answer (Self.meaning self.old) key }
+        ensures after { Self.meaning self.new ≡ after_destroy (Self.meaning self.old) key }
         ensures destroyed { destroyed self.old key result self.new };
 
-    ghost formed: { (x : Self) → WellFormed (meaning x) };
+    ghost formed: { (x : Self) → WellFormed (Self.meaning x) };
 }
 
 // What changes a key repeats the trait's clauses, since clauses here stand in place of those, and says what the layer promises beside.
 impl<L: Layer> Suite for L {
-    ghost meaning = { L.meaning };
-
     ghost scheme = { L.Below.scheme };
 
     ghost lawful = { L.Below.lawful };

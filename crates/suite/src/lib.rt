@@ -6,5 +6,5 @@ mod suite_trait;
 mod types;
 
 pub use layer::Layer;
-pub use suite_trait::Suite;
+pub use suite_trait::{HasMeaning, Suite};
 pub use types::{Denial, KeyKind, KindNumbers, Role};

@@ -10,7 +10,7 @@ use super::Ledger;
 use crate::row::Row;
 use crate::table::Table;
 use quota::Quota;
-use suite::{Denial, KeyKind, Layer, Suite};
+use suite::{Denial, HasMeaning, KeyKind, Layer, Suite};
 
 impl<S: Suite> Ledger<S> {
     // Puts a ledger over a suite.
@@ -50,11 +50,13 @@ impl<S: Suite> Ledger<S> {
     }
 }
 
+impl<S: HasMeaning> HasMeaning for Ledger<S> {
+    ghost meaning = { ledger_meaning S.meaning };
+}
+
 // Beside what every layer promises: what the suite below means after, what the rows are, and that they still tell of the keys.
 impl<S: Suite> Layer for Ledger<S> {
     type Below = S;
-
-    ghost meaning = { ledger_meaning S.meaning };
 
     ghost made = { λ x kind value result y. (S.meaning y.below.below ≡ after_making (S.meaning x.below.below) kind value) × (rows_of y ≡ entered kind result (rows_of x)) × StillTold S.meaning x y };
 

@@ -14,7 +14,7 @@ use crate::kind::Kind;
 use crate::payload::{read_payload, write_payload};
 use key_store::KeyStore;
 use std::marker::PhantomData;
-use suite::{Denial, KeyKind, KindNumbers, Role, Suite};
+use suite::{Denial, HasMeaning, KeyKind, KindNumbers, Role, Suite};
 
 impl<K: Kind> SuiteOf<K> {
     // A suite with a root and no key.
@@ -50,9 +50,11 @@ impl<K: Kind> SuiteOf<K> {
     }
 }
 
-impl<K: Kind> Suite for SuiteOf<K> {
+impl<K: Kind> HasMeaning for SuiteOf<K> {
     ghost meaning = { meaning_of };
+}
 
+impl<K: Kind> Suite for SuiteOf<K> {
     ghost scheme = { scheme_of K.functions };
 
     ghost lawful = { lawful_of K.functions K.sound };
