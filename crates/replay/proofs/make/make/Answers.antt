@@ -9,7 +9,7 @@ use Rattle.replay.proofs.make.make.Goals as goal
 pub returns-clause-written : goal.returns-clause-written
 returns-clause-written g c =
     let s = g.S.Suite.scheme in
-    let m = view g.S.Suite.meaning c.args.entity.now in
+    let m = view g.S.HasMeaning.meaning c.args.entity.now in
     let k = called c.args.call.now in
     let made = c.call_with-answer in
     c.written-written.ensures ∙ reply_told m (turn s m k) made.result made.new.buffer _ (every_call_ends s m k) made.ensures.answer made.ensures.buffer

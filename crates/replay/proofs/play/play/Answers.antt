@@ -7,7 +7,7 @@ use Rattle.replay.proofs.play.play.Goals as goal
 pub loop-i-preserved : goal.loop-i-preserved
 loop-i-preserved g c =
     let s = g.S.Suite.scheme in
-    let m = view g.S.Suite.meaning c.args.entity.now in
+    let m = view g.S.HasMeaning.meaning c.args.entity.now in
     let log = c.args.calls.now in
     let i = c.loop-i.i in
     let so_far = c.loop-i.invariant in
@@ -17,7 +17,7 @@ loop-i-preserved g c =
     let new = reverse (calls_of (take (i + 1) log)) in
     let e = calls_more log i _ low in
     let made = c.make-answer.ensures in
-    let before = view g.S.Suite.meaning c.loop-i.entity in
+    let before = view g.S.HasMeaning.meaning c.loop-i.entity in
     let x = entry_is s m old new _ before e so_far.model _ c.make-answer.result.0 _ c.note.ensures.told made.answer made.written in
     record {
       places = search rules;

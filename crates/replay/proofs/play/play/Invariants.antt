@@ -10,12 +10,12 @@ use Rattle.replay.proofs.play.play.Given as goal
 abbrev pub invariant-loop-i : goal.invariant-loop-i
 invariant-loop-i g l =
     let s = g.S.Suite.scheme in
-    let m = view g.S.Suite.meaning l.fn.entity in
+    let m = view g.S.HasMeaning.meaning l.fn.entity in
     let made = reverse (calls_of (take l.i l.calls)) in
     record {
       places : length l.entries ≡ length l.calls;
       lent : length l.buffer ≡ length l.initial.buffer;
-      model : view g.S.Suite.meaning l.entity ≡ after s m made;
+      model : view g.S.HasMeaning.meaning l.entity ≡ after s m made;
       told : told_history (calls_of (take l.i l.calls)) (take l.i l.entries) ≡ history s m made;
       records : told_records (take l.i l.entries) ≡ charges (history s m made);
       session : l.session ≡ link_in (history s m made);
