@@ -1,5 +1,5 @@
 -- That the rows of a ledger tell of its keys, kept by every call.
-use Rattle.std.proofs.Common.{◌≡◌, ℕ, ◌+◌, ◌<◌, ◌≤◌, true, false, List, [], ◌∷◌, ◌++◌, length, is_some, Ok, Err, Result, refl, ◌∙◌, arith}
+use Rattle.std.proofs.Common.{◌≡◌, ℕ, ◌+◌, ◌-◌, ◌<◌, ◌≤◌, true, false, List, [], ◌∷◌, ◌++◌, length, is_some, Ok, Err, Result, refl, ◌∙◌, arith}
 use Rattle.std.proofs.ByRecursion.{All-push}
 use Rattle.std.proofs.lemmas.List.{length_push}
 use Rattle.std.proofs.lemmas.Grind.{common_steps}
@@ -65,16 +65,22 @@ true-push : (n : ℕ) (rows : List Row) (ks : List Key) (k : Key) → Following 
 true-push n [] ks k f l h = tt
 true-push n (r ∷ rows) ks k f l h = grind (arith, common_steps, says-push r.mark ks k r.kind r.serial, true-push (n + 1) rows ks k)
 
-made_told : (start : ℕ) (m : Meaning) (kind : KeyKind) (made : Result (List ℕ) Denial) (rows : List Row) → Told start m rows → Told start (after_making m kind made) (entered kind (serial_answer m made) rows)
-made_told start m kind (Ok v) rows t =
+made_told : (m : Meaning) (kind : KeyKind) (made : Result (List ℕ) Denial) (rows : List Row) → Told m rows → Told (after_making m kind made) (entered kind (serial_answer m made) rows)
+made_told m kind (Ok v) rows t =
     let k : Key = record { serial = m.newest + 1; kind = kind; value = v } in
     let r = live_row (m.newest + 1) kind in
-    grind (arith, common_steps, t.count, length_push rows r, follow-push (start + 1) rows r t.order, All-push (TrueOf (m.live ++ (k ∷ []))) rows r, true-push (start + 1) rows m.live k t.order, value_made m.live k, t.marks)
-made_told start m kind (Err e) rows t = t
+    let first = m.newest - length rows + 1 in
+    let e : m.newest + 1 - length (rows ++ (r ∷ [])) ≡ m.newest - length rows = omega (arith, length_push rows r) in
+    record {
+      count = omega (arith, t.count, length_push rows r);
+      order = rw e (follow-push first rows r t.order (omega (arith, t.count)));
+      marks = grind (arith, common_steps, t.count, All-push (TrueOf (m.live ++ (k ∷ []))) rows r, true-push first rows m.live k t.order, value_made m.live k, t.marks);
+    }
+made_told m kind (Err e) rows t = t
 
 -- the same from what a call promises of its answer, the meaning after and the rows after
-pub made_kept : (start : ℕ) (m m' : Meaning) (kind : KeyKind) (made : Result (List ℕ) Denial) (r : Result ℕ Denial) (rows rows' : List Row) → r ≡ serial_answer m made → m' ≡ after_making m kind made → rows' ≡ entered kind r rows → Told start m rows → Told start m' rows'
-made_kept start m m' kind made r rows rows' a f e t = rw (f, e, a) (made_told start m kind made rows t)
+pub made_kept : (m m' : Meaning) (kind : KeyKind) (made : Result (List ℕ) Denial) (r : Result ℕ Denial) (rows rows' : List Row) → r ≡ serial_answer m made → m' ≡ after_making m kind made → rows' ≡ entered kind r rows → Told m rows → Told m' rows'
+made_kept m m' kind made r rows rows' a f e t = rw (f, e, a) (made_told m kind made rows t)
 
 -- The rows after one is marked.
 
@@ -91,9 +97,10 @@ true-struck : (n d : ℕ) (rows : List Row) (ks : List Key) → Apart ks → Fol
 true-struck n d [] ks a f h = tt
 true-struck n d (r ∷ rows) ks a f h = grind (arith, common_steps, gone ks d, says-without r.mark ks d r.kind r.serial, true_later (n + 1) d rows ks, true-struck (n + 1) d rows ks)
 
-struck_told : (start : ℕ) (m : Meaning) (key : ℕ) (rows : List Row) → Apart m.live → Told start m rows → Told start (after_destroy m key) (struck_by key (destroy_answer m key) rows)
-struck_told start m key rows a t =
-    grind (arith, common_steps, t.count, t.order, t.marks, length-struck key rows, follow-struck (start + 1) key rows, true-struck (start + 1) key rows m.live a, unfound m.live key)
+struck_told : (m : Meaning) (key : ℕ) (rows : List Row) → Apart m.live → Told m rows → Told (after_destroy m key) (struck_by key (destroy_answer m key) rows)
+struck_told m key rows a t =
+    let first = m.newest - length rows + 1 in
+    grind (arith, common_steps, t.count, t.order, t.marks, length-struck key rows, follow-struck first key rows, true-struck first key rows m.live a, unfound m.live key)
 
-pub struck_kept : (start : ℕ) (m m' : Meaning) (key : ℕ) (r : Result (Unit {0}) Denial) (rows rows' : List Row) → Apart m.live → r ≡ destroy_answer m key → m' ≡ after_destroy m key → rows' ≡ struck_by key r rows → Told start m rows → Told start m' rows'
-struck_kept start m m' key r rows rows' w a f e t = rw (f, e, a) (struck_told start m key rows w t)
+pub struck_kept : (m m' : Meaning) (key : ℕ) (r : Result (Unit {0}) Denial) (rows rows' : List Row) → Apart m.live → r ≡ destroy_answer m key → m' ≡ after_destroy m key → rows' ≡ struck_by key r rows → Told m rows → Told m' rows'
+struck_kept m m' key r rows rows' w a f e t = rw (f, e, a) (struck_told m key rows w t)

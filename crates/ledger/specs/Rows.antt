@@ -1,5 +1,5 @@
 -- The rows of a ledger: how a key's making enters one, how its destroying marks one, and what the rows tell of the keys.
-use Rattle.std.specs.Prelude.{◌≡◌, ℕ, ◌+◌, Bool, true, false, cond, List, [], ◌∷◌, ◌++◌, length, is_some, Ok, Err, Result, ◌==◌}
+use Rattle.std.specs.Prelude.{◌≡◌, ℕ, ◌+◌, ◌-◌, ◌≤◌, Bool, true, false, cond, List, [], ◌∷◌, ◌++◌, length, is_some, Ok, Err, Result, ◌==◌}
 use Rattle.std.specs.List.{AllByRecursion}
 use Rattle.suite.specs.declared.types.KeyKind.{KeyKind}
 use Rattle.suite.specs.declared.types.KeyKind.TheVariants.{SharedSecret}
@@ -59,9 +59,9 @@ Says Destroyed keys kind n = is_live keys n ≡ false
 abbrev pub TrueOf : List Key → Row → Type 0
 TrueOf keys r = Says r.mark keys r.kind r.serial
 
--- The rows of a ledger that was put over when `start` was the newest serial: one for each key made since, in the order made. A row
--- is marked live just where its key is, and has its kind then.
-pub record Told (start : ℕ) (m : Meaning) (rows : List Row) : Type 0 where
-  pub count : m.newest ≡ start + length rows
-  pub order : Following (start + 1) rows
+-- The rows of a ledger, by what the suite under it means: one for each of the keys made last, in the order made. A row is marked live
+-- just where its key is, and has its kind then.
+pub record Told (m : Meaning) (rows : List Row) : Type 0 where
+  pub count : length rows ≤ m.newest
+  pub order : Following (m.newest - length rows + 1) rows
   pub marks : AllByRecursion (TrueOf m.live) rows

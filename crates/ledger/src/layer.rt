@@ -1,14 +1,20 @@
 ghost use Rattle.std.specs.Prelude.{◌≡◌, ◌+◌, length};
+ghost use Rattle.quota.specs.Allowances.{quota_meaning};
+ghost use Rattle.ledger.specs.Rows.{Told};
 ghost use Rattle.ledger.specs.Tables.{rows_in};
+ghost use Rattle.ledger.specs.ToldLaws.{Told-prop};
 
 use crate::table::Table;
 use quota::Quota;
+use suite::HasMeaning;
 
 mod calls;
 
-// A suite that keeps a row for each key made through it. Its allowance is the number of unused places in the table.
-pub struct Ledger<S> {
+// A suite that keeps a row for each key made through it. Its allowance is the number of unused places in the table, and its rows tell
+// of its keys, whoever has used it.
+pub struct Ledger<S: HasMeaning> {
     below: Quota<S>,
     table: Table,
     ghost unused: { below.left + length (rows_in table) ≡ 32 },
+    ghost told: { Told (quota_meaning S.meaning below) (rows_in table) } by { Told-prop (quota_meaning S.meaning below) (rows_in table) },
 }

@@ -1,10 +1,10 @@
-ghost use Rattle.std.specs.Prelude.{◌≡◌, ◌+◌, ◌≤◌, min, [], None};
+ghost use Rattle.std.specs.Prelude.{◌≡◌, ◌+◌, ◌≤◌, min, [], length, None, IfSome};
 ghost use Rattle.std.specs.List.{slice_get};
 ghost use Rattle.suite.specs.Meanings.{with_last};
 ghost use Rattle.suite.specs.Calls.{after_making, after_destroy};
 ghost use Rattle.quota.specs.AllowanceLaws.{limited-formed};
-ghost use Rattle.ledger.specs.Rows.{entered, struck_by, Told};
-ghost use Rattle.ledger.specs.Ledgers.{ledger_meaning, rows_of, StillTold};
+ghost use Rattle.ledger.specs.Rows.{entered, struck_by, TrueOf, Told};
+ghost use Rattle.ledger.specs.Ledgers.{ledger_meaning, rows_of};
 
 use super::Ledger;
 use crate::row::Row;
@@ -18,7 +18,6 @@ impl<S: Suite> Ledger<S> {
         ensures meaning { ledger_meaning S.meaning result ≡ with_last (S.meaning below) (min (S.meaning below).last ((S.meaning below).newest + 32)) }
         ensures below { result.below.below ≡ below }
         ensures rows { rows_of result ≡ [] }
-        ensures told { Told (S.meaning below).newest (ledger_meaning S.meaning result) (rows_of result) }
     {
         Ledger {
             below: Quota::new(below, 32),
@@ -34,9 +33,11 @@ impl<S: Suite> Ledger<S> {
         below.into_below()
     }
 
-    // All rows, one for each key that was made through the ledger, in the order made.
+    // All rows, one for each key that was made through the ledger, in the order made: 32 less the keys that its quota still allows.
     pub fn rows(&self) -> &[Row]
-        ensures { result.now ≡ rows_of self.now }
+        ensures rows { result.now ≡ rows_of self.now }
+        ensures count { self.now.below.left + length result.now ≡ 32 }
+        ensures told { Told (ledger_meaning S.meaning self.now) result.now }
     {
         self.table.rows()
     }
@@ -44,6 +45,7 @@ impl<S: Suite> Ledger<S> {
     // The row at a place, from 0 on; none at an unused place or past the table.
     pub fn row(&self, place: usize) -> Option<Row>
         ensures row { result ≡ slice_get (rows_of self.now) place }
+        ensures told { IfSome result (TrueOf (ledger_meaning S.meaning self.now).live) }
         ensures past { 32 ≤ place → result ≡ None }
     {
         self.rows().get(place).copied()
@@ -54,13 +56,13 @@ impl<S: HasMeaning> HasMeaning for Ledger<S> {
     ghost meaning = { ledger_meaning S.meaning };
 }
 
-// Beside what every layer promises: what the suite below means after, what the rows are, and that they still tell of the keys.
+// Beside what every layer promises: what the suite below means after, and what the rows are.
 impl<S: Suite> Layer for Ledger<S> {
     type Below = S;
 
-    ghost made = { λ x kind value result y. (S.meaning y.below.below ≡ after_making (S.meaning x.below.below) kind value) × (rows_of y ≡ entered kind result (rows_of x)) × StillTold S.meaning x y };
+    ghost made = { λ x kind value result y. (S.meaning y.below.below ≡ after_making (S.meaning x.below.below) kind value) × (rows_of y ≡ entered kind result (rows_of x)) };
 
-    ghost destroyed = { λ x key result y. (S.meaning y.below.below ≡ after_destroy (S.meaning x.below.below) key) × (rows_of y ≡ struck_by key result (rows_of x)) × StillTold S.meaning x y };
+    ghost destroyed = { λ x key result y. (S.meaning y.below.below ≡ after_destroy (S.meaning x.below.below) key) × (rows_of y ≡ struck_by key result (rows_of x)) };
 
     ghost formed = { λ x. limited-formed (S.meaning x.below.below) x.below.left (S.formed x.below.below) };
 

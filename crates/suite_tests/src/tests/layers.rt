@@ -1,4 +1,8 @@
 // Quota and ledger over the bench suite, in both orders.
+ghost use Rattle.std.specs.Prelude.{IfSome};
+ghost use Rattle.ledger.specs.Ledgers.{ledger_meaning};
+ghost use Rattle.ledger.specs.Rows.{TrueOf};
+
 use super::calls::*;
 use bench_suite::Bench;
 use ledger::{Ledger, Row, RowMark};
@@ -82,6 +86,38 @@ fn ledger_rows(rt: HostRuntime) {
     ];
     assert_eq!(rt; rows, [Some(link), Some(secret), None, None, None]);
     assert_eq!(rt; suite.last_serial(), 33);
+    let _root = suite.into_below().close();
+}
+
+// Code that is written for any suite.
+fn make_and_destroy<S: Suite>(suite: &mut S) {
+    let _ = suite.agree(&[1; 16], &[2; 16], SENDER);
+    let _ = suite.derive(1);
+    let _ = suite.destroy(1);
+}
+
+// Such code knows of no ledger, and yet what a row tells afterwards is so.
+fn row_after_use<S: Suite>(ledger: &mut Ledger<S>, place: usize) -> Option<Row>
+    ensures { IfSome result (TrueOf (ledger_meaning S.meaning ledger.new).live) }
+{
+    make_and_destroy(ledger);
+    ledger.row(place)
+}
+
+#[test]
+fn rows_after_use(rt: HostRuntime) {
+    let mut suite = Ledger::new(Bench::new(ROOT));
+    let rows = [row_after_use(&mut suite, 0), suite.row(1), suite.row(2)];
+    let secret = Row {
+        mark: RowMark::Destroyed,
+        ..live_secret(1)
+    };
+    let link = Row {
+        serial: 2,
+        kind: KeyKind::LinkKey,
+        mark: RowMark::Live,
+    };
+    assert_eq!(rt; rows, [Some(secret), Some(link), None]);
     let _root = suite.into_below().close();
 }
 

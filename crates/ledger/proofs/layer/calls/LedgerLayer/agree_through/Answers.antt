@@ -3,5 +3,5 @@ use Rattle.std.proofs.Common.{rules}
 use Rattle.ledger.proofs.RowLaws.{made_kept}
 use Rattle.ledger.proofs.layer.calls.LedgerLayer.agree_through.Goals as goal
 
-pub returns-clause-made : goal.returns-clause-made
-returns-clause-made g c = let p = c.in_ok-serial.ensures in search (rules, made_kept)
+pub invariant_of-self-2-clause-told : goal.invariant_of-self-2-clause-told
+invariant_of-self-2-clause-told g c = let p = c.in_ok-serial.ensures in let t = c.args.self.now.told in search (rules, made_kept)
