@@ -1,6 +1,6 @@
 -- What a history of calls tells: keys reported, link sessions, records.
 use Rattle.std.specs.Prelude.{◌≡◌, ℕ, ◌<◌, Bool, true, false, cond, ◌||◌, List, [], ◌∷◌, ◌++◌, Ok, Err, Result, ◌==◌}
-use Rattle.suite.specs.Meanings.{Bytes, WellFormed}
+use Rattle.suite.specs.Meanings.{WellFormed}
 use Rattle.suite.specs.Schemes.{Scheme}
 use Rattle.protocol.specs.declared.states.State.TheVariants.{Idle}
 use Rattle.protocol.specs.declared.refusals.Refusal.{Refusal}
@@ -17,16 +17,6 @@ pub record Fresh (m : Model) : Type 0 where
   pub no_secret : m.secret ≡ 0
   pub no_link : m.link ≡ 0
   pub none_held : m.held ≡ []
-
--- what a call is given are bytes
-abbrev pub GivenBytes : Call → Type 0
-GivenBytes (invoke service pid seed room) = Bytes seed
-GivenBytes (send plain room) = Bytes plain
-GivenBytes (retrieve_data room) = Unit {0}
-GivenBytes (retrieve_secret room) = Unit {0}
-GivenBytes (terminate room) = Unit {0}
-GivenBytes (frame bytes seed room) = Bytes bytes × Bytes seed
-GivenBytes release = Unit {0}
 
 -- a call, what it answered and the bytes that it wrote
 pub record Entry : Type 0 where
@@ -113,7 +103,7 @@ given (send plain room) = plain ∷ []
 given (retrieve_data room) = []
 given (retrieve_secret room) = []
 given (terminate room) = []
-given (frame bytes seed room) = []
+given (frame bytes beside room) = []
 given release = []
 
 abbrev pub heard_by : Call → List (List ℕ)
@@ -122,7 +112,7 @@ heard_by (send plain room) = []
 heard_by (retrieve_data room) = []
 heard_by (retrieve_secret room) = []
 heard_by (terminate room) = []
-heard_by (frame bytes seed room) = bytes ∷ []
+heard_by (frame bytes beside room) = bytes ∷ []
 heard_by release = []
 
 -- the data of a record sent: a send with confirmation 2
@@ -152,7 +142,7 @@ hands a (send plain room) = false
 hands a (retrieve_data room) = answers a
 hands a (retrieve_secret room) = false
 hands a (terminate room) = false
-hands a (frame bytes seed room) = false
+hands a (frame bytes beside room) = false
 hands a release = false
 
 abbrev pub handing : Entry → Bool

@@ -2,11 +2,11 @@
 use Rattle.std.specs.Prelude.{◌≡◌, ◌≢◌, ℕ, true, cond, ◌⊎◌, List, [], ◌∷◌, ◌++◌, Some, None, Option}
 use Rattle.std.specs.List.{AllByRecursion}
 use Rattle.suite.specs.declared.types.KeyKind.TheVariants.{LinkKey}
-use Rattle.suite.specs.Meanings.{value_in}
+use Rattle.suite.specs.Meanings.{Keyring, keyring_of, value_in}
 use Rattle.suite.specs.Schemes.{Scheme}
 use Rattle.protocol.specs.Models.{Model}
-use Rattle.protocol.specs.Calls.{Call, invoke, send, retrieve_data, retrieve_secret, terminate, frame, release, turn}
-use Rattle.histories.specs.Histories.{Entry, History, GivenBytes, entered, destroyed_in, after, history, Fresh, Runs, confirms, member}
+use Rattle.protocol.specs.Calls.{Call, invoke, send, retrieve_data, retrieve_secret, terminate, frame, release, GivenBytes, turn}
+use Rattle.histories.specs.Histories.{Entry, History, entered, destroyed_in, after, history, Fresh, Runs, confirms, member}
 
 abbrev pub sealed_by : List ℕ → Call → List (List ℕ)
 sealed_by written (invoke service pid seed room) = []
@@ -14,7 +14,7 @@ sealed_by written (send plain room) = written ∷ []
 sealed_by written (retrieve_data room) = []
 sealed_by written (retrieve_secret room) = []
 sealed_by written (terminate room) = []
-sealed_by written (frame bytes seed room) = []
+sealed_by written (frame bytes beside room) = []
 sealed_by written release = []
 
 -- the ENC of a record sent: what the send wrote
@@ -25,18 +25,18 @@ abbrev pub encs : History → List (List ℕ)
 encs [] = []
 encs (e ∷ h) = encs h ++ enc_in e
 
--- the number that an ENC opens to under a link key, by its serial and value
+-- the number that an ENC opens to under a link key, by its serial and value, for a suite with that keyring
 abbrev pub opens_to : Option (ℕ × ℕ × List ℕ) → List ℕ
 opens_to None = []
 opens_to (Some t) = t.1 ∷ []
 
-abbrev pub number_in : Scheme → List ℕ → ℕ → List ℕ → List ℕ → List ℕ
-number_in s root serial value [] = []
-number_in s root serial value (b ∷ payload) = opens_to (s.open_of root serial value payload)
+abbrev pub number_in : Scheme → Keyring → ℕ → List ℕ → List ℕ → List ℕ
+number_in s k serial value [] = []
+number_in s k serial value (b ∷ payload) = opens_to (s.open_of k serial value payload)
 
-abbrev pub numbers : Scheme → List ℕ → ℕ → List ℕ → List (List ℕ) → List ℕ
-numbers s root serial value [] = []
-numbers s root serial value (x ∷ xs) = number_in s root serial value x ++ numbers s root serial value xs
+abbrev pub numbers : Scheme → Keyring → ℕ → List ℕ → List (List ℕ) → List ℕ
+numbers s k serial value [] = []
+numbers s k serial value (x ∷ xs) = number_in s k serial value x ++ numbers s k serial value xs
 
 abbrev pub In : List ℕ → List (List ℕ) → Type 0
 In x [] = ⊥
@@ -53,7 +53,7 @@ CopyIn copies (send plain room) = Unit {0}
 CopyIn copies (retrieve_data room) = Unit {0}
 CopyIn copies (retrieve_secret room) = Unit {0}
 CopyIn copies (terminate room) = Unit {0}
-CopyIn copies (frame bytes seed room) = CopyOf copies bytes
+CopyIn copies (frame bytes beside room) = CopyOf copies bytes
 CopyIn copies release = Unit {0}
 
 -- every ENC that the calls were given is one of these
@@ -89,13 +89,13 @@ pub data LinkSession (s : Scheme) (value : List ℕ) : History → Type 0 where
   running : {since : History} → InSession s value since → LinkSession s value since
   over : {since : History} (x : InSession s value since) (c : Call) → member x.serial (destroyed_in (last_entry x c).answer) ≡ true → LinkSession s value (last_entry x c ∷ since)
 
-abbrev root_in : {s : Scheme} {value : List ℕ} {since : History} → InSession s value since → List ℕ
-root_in {s} x = (after s x.start x.calls).means.root
+abbrev keyring_in : {s : Scheme} {value : List ℕ} {since : History} → InSession s value since → Keyring
+keyring_in {s} x = keyring_of (after s x.start x.calls).means
 
--- the root of the session's suite
-abbrev pub root_of : {s : Scheme} {value : List ℕ} {since : History} → LinkSession s value since → List ℕ
-root_of (running x) = root_in x
-root_of (over x c d) = root_in x
+-- the keyring of the session's suite, the same in all of the session: no key is made in it, and none destroyed before its end
+abbrev pub keyring_at : {s : Scheme} {value : List ℕ} {since : History} → LinkSession s value since → Keyring
+keyring_at (running x) = keyring_in x
+keyring_at (over x c d) = keyring_in x
 
 -- the serial of its link key
 abbrev pub serial_of : {s : Scheme} {value : List ℕ} {since : History} → LinkSession s value since → ℕ
