@@ -1,12 +1,12 @@
 -- Two link sessions with equal link keys.
 use Rattle.std.specs.Prelude.{◌≡◌, ◌≢◌, ℕ, true, cond, ◌⊎◌, List, [], ◌∷◌, ◌++◌, Some, None, Option}
-use Rattle.std.specs.List.{AllByRecursion}
+use Rattle.std.proofs.Common.{inl, inr}
 use Rattle.suite.specs.declared.types.KeyKind.TheVariants.{LinkKey}
 use Rattle.suite.specs.Meanings.{Keyring, keyring_of, value_in}
 use Rattle.suite.specs.Schemes.{Scheme}
 use Rattle.protocol.specs.Models.{Model}
-use Rattle.protocol.specs.Calls.{Call, invoke, send, retrieve_data, retrieve_secret, terminate, frame, release, GivenBytes, turn}
-use Rattle.histories.specs.Histories.{Entry, History, entered, destroyed_in, after, history, Fresh, Runs, confirms, member}
+use Rattle.protocol.specs.Calls.{Call, invoke, send, retrieve_data, retrieve_secret, terminate, frame, release, turn}
+use Rattle.histories.specs.Histories.{Entry, History, entered, destroyed_in, after, history, Runs, confirms, member}
 
 abbrev pub sealed_by : List ℕ → Call → List (List ℕ)
 sealed_by written (invoke service pid seed room) = []
@@ -71,36 +71,37 @@ pub data Part : List (List ℕ) → List (List ℕ) → Type 0 where
 abbrev pub Begins : List (List ℕ) → List (List ℕ) → Type 0
 Begins xs ys = (rest : List (List ℕ)) × (ys ≡ xs ++ rest)
 
--- after some calls to a fresh entity a link session runs, whose link key has this value; these are its calls since the start
-pub record InSession (s : Scheme) (value : List ℕ) (since : History) : Type 0 where
-  pub start : Model
-  pub fresh : Fresh start
-  pub calls : List Call
-  pub bytes : AllByRecursion GivenBytes calls
-  pub serial : ℕ
-  pub runs : Runs serial (history s start calls) since
-  pub key : value_in (after s start calls).means.live LinkKey serial ≡ Some value
+-- after these calls the link session with link key n runs: its link key has this value, and these calls were made in it since its start
+pub record InSession (s : Scheme) (m : Model) (calls : List Call) (n : ℕ) (value : List ℕ) (since : History) : Type 0 where
+  pub runs : Runs n (history s m calls) since
+  pub key : value_in (after s m calls).means.live LinkKey n ≡ Some value
 
-abbrev pub last_entry : {s : Scheme} {value : List ℕ} {since : History} → InSession s value since → Call → Entry
-last_entry {s} x c = entered c (turn s (after s x.start x.calls) c)
+-- what one more call tells
+abbrev pub next_entry : Scheme → Model → List Call → Call → Entry
+next_entry s m calls c = entered c (turn s (after s m calls) c)
 
--- a link session that runs, or that is over: its last call reports the link key destroyed
-pub data LinkSession (s : Scheme) (value : List ℕ) : History → Type 0 where
-  running : {since : History} → InSession s value since → LinkSession s value since
-  over : {since : History} (x : InSession s value since) (c : Call) → member x.serial (destroyed_in (last_entry x c).answer) ≡ true → LinkSession s value (last_entry x c ∷ since)
+-- after these calls it is over: its last call reported the link key destroyed
+pub data EndedSession (s : Scheme) (m : Model) : List Call → ℕ → List ℕ → History → Type 0 where
+  ends : {calls : List Call} {n : ℕ} {value : List ℕ} {since : History} (c : Call) → InSession s m calls n value since
+      → member n (destroyed_in (next_entry s m calls c).answer) ≡ true → EndedSession s m (c ∷ calls) n value (next_entry s m calls c ∷ since)
+  stays : {calls : List Call} {n : ℕ} {value : List ℕ} {since : History} (c : Call) → EndedSession s m calls n value since
+      → EndedSession s m (c ∷ calls) n value since
 
-abbrev keyring_in : {s : Scheme} {value : List ℕ} {since : History} → InSession s value since → Keyring
-keyring_in {s} x = keyring_of (after s x.start x.calls).means
+-- a link session of these calls, running or over
+abbrev pub LinkSession : Scheme → Model → List Call → ℕ → List ℕ → History → Type 0
+LinkSession s m calls n value since = InSession s m calls n value since ⊎ EndedSession s m calls n value since
 
--- the keyring of the session's suite, the same in all of the session: no key is made in it, and none destroyed before its end
-abbrev pub keyring_at : {s : Scheme} {value : List ℕ} {since : History} → LinkSession s value since → Keyring
-keyring_at (running x) = keyring_in x
-keyring_at (over x c d) = keyring_in x
+abbrev keyring_after : Scheme → Model → List Call → Keyring
+keyring_after s m calls = keyring_of (after s m calls).means
 
--- the serial of its link key
-abbrev pub serial_of : {s : Scheme} {value : List ℕ} {since : History} → LinkSession s value since → ℕ
-serial_of (running x) = x.serial
-serial_of (over x c d) = x.serial
+abbrev keyring_then : {s : Scheme} {m : Model} {calls : List Call} {n : ℕ} {value : List ℕ} {since : History} → EndedSession s m calls n value since → Keyring
+keyring_then {s} {m} (ends {calls} c x d) = keyring_after s m calls
+keyring_then (stays c x) = keyring_then x
+
+-- the keyring of a session's suite, the same in all of the session: no key is made in it, and none is destroyed before its end
+abbrev pub keyring_at : {s : Scheme} {m : Model} {calls : List Call} {n : ℕ} {value : List ℕ} {since : History} → LinkSession s m calls n value since → Keyring
+keyring_at {s} {m} {calls} (inl x) = keyring_after s m calls
+keyring_at (inr x) = keyring_then x
 
 -- no number was sent in both sessions
 abbrev pub NoneTwice : List ℕ → List ℕ → Type 0

@@ -1,7 +1,9 @@
 -- Every run keeps account of its keys, its link sessions and its suite.
-use Rattle.std.proofs.Common.{◌≡◌, ℕ, ◌≤◌, Bool, true, false, cond, not, eqb, List, [], ◌∷◌, sym, refl, ap, inl, inr, arith}
+use Rattle.std.proofs.Common.{◌≡◌, ℕ, ◌≤◌, Bool, true, false, cond, not, eqb, ◌⊎◌, List, [], ◌∷◌, Some, sym, refl, ap, ◌∙◌, inl, inr, arith}
 use Rattle.std.proofs.lemmas.Bool.{cases_Bool}
 use Rattle.std.specs.List.{AllByRecursion}
+use Rattle.suite.specs.declared.types.KeyKind.TheVariants.{LinkKey}
+use Rattle.suite.specs.Meanings.{value_in}
 use Rattle.suite.specs.Schemes.{Scheme, Lawful}
 use Rattle.suite.specs.Calls.{no_room}
 use Rattle.protocol.specs.declared.states.State.{State}
@@ -9,14 +11,17 @@ use Rattle.protocol.specs.declared.states.State.TheVariants.{Idle, Select, Estab
 use Rattle.protocol.specs.Numbers.{state_mark}
 use Rattle.protocol.specs.Models.{Model}
 use Rattle.protocol.specs.Calls.{Call, invoke, send, retrieve_data, retrieve_secret, terminate, frame, release, Turn, turn, in_state}
-use Rattle.histories.specs.Histories.{Entry, History, Fresh, GivenBytes, after, history, entered, confirms, sent_in, handing}
-use Rattle.histories.specs.Records.{link_in, was_sent, was_handed, charged_in}
-use Rattle.promises.specs.Promises.{HandedInSession, SessionsTold, Kept, EveryRun}
+use Rattle.histories.specs.Histories.{Entry, History, Fresh, GivenBytes, after, history, entered, Runs, confirms, sent_in, handing}
+use Rattle.histories.specs.Records.{link_in, Over, was_sent, was_handed, charged_in}
+use Rattle.histories.specs.Records as over
+use Rattle.histories.specs.Sessions.{InSession, EndedSession, ends, stays, LinkSession}
+use Rattle.promises.specs.Promises.{HandedInSession, SessionsTold, Kept, EveryRun, EverySession}
 use Rattle.promises.proofs.Cases.{both, clash}
 use Rattle.promises.proofs.Books.{within_less}
+use Rattle.promises.proofs.Forms.{link_there}
 use Rattle.promises.proofs.Sounds.{Sound, at_idle, at_select, at_secret, at_sch, has_link}
 use Rattle.promises.proofs.Turns.{not_idle, not_linked}
-use Rattle.promises.proofs.Runs.{Holds, holds, orderly}
+use Rattle.promises.proofs.Runs.{Fits, Holds, holds, orderly}
 use Rattle.promises.proofs.Tellings.{Orderly, read_off, none_read, runs_told, run_above, over_told, Quiet, no_others}
 use Rattle.promises.proofs.Askings.{asks_well}
 
@@ -109,6 +114,18 @@ number_below s (at_select b h) e = absurd (cc)
 number_below s (at_secret state k one) e = clash _ (not_linked k) (ap (λ z. eqb (state_mark z) 5) e)
 number_below s (at_sch h lo hi) e = hi
 
+-- the link key of a session that runs is live
+key_at : (s : Scheme) {m : Model} → Sound s m → has_link m ≡ true → (value : List ℕ) × (value_in m.means.live LinkKey m.link ≡ Some value)
+key_at s (at_idle b) e = absurd (cc)
+key_at s (at_select b h) e = absurd (cc)
+key_at s (at_secret state k one) e = clash _ (not_linked k) e
+key_at s (at_sch {n} {v} {w} two lo hi) e = (w, link_there n v w)
+
+link_live : (s : Scheme) {m : Model} → Sound s m → {n : ℕ} {since : History} → Fits s m n since → (value : List ℕ) × (value_in m.means.live LinkKey n ≡ Some value)
+link_live s {m} S fits =
+    let k = key_at s S fits.linked in
+    (k.0, ap (λ z. value_in m.means.live LinkKey z) fits.key ∙ k.1)
+
 -- what is told of link sessions holds after every list of calls
 told : (s : Scheme) {m : Model} {h : History} → Holds s m h → Orderly h → Quiet h → SessionsTold m h
 told s {m} {h} H o quiet = record {
@@ -133,6 +150,7 @@ kept s law {m} H g o quiet = record {
   sessions = record {
     runs = λ e. H.some (linked_at m e);
     confirmed = λ n since r. confirmed_at m.state (H.all n since r).linked;
+    key = λ n since r. link_live s H.sound (H.all n since r);
     number = λ n since r. (H.all n since r).number;
     last = number_below s H.sound;
     handed = g;
@@ -143,3 +161,27 @@ kept s law {m} H g o quiet = record {
 
 pub every_run : EveryRun
 every_run s law m f calls given = kept s law (holds s law m f calls given) (all_handed s law m f calls given) (orderly s law m f calls given) (all_quiet s law m f calls given)
+
+-- Every link session of a run has a link key's value.
+module _ (s : Scheme) (law : Lawful s) (m : Model) (f : Fresh m) (n : ℕ) where
+  -- one that runs
+  valued : (calls : List Call) → AllByRecursion GivenBytes calls → (since : History) → Runs n (history s m calls) since
+      → (value : List ℕ) × InSession s m calls n value since
+  valued calls given since r =
+      let k = (every_run s law m f calls given).sessions.key n since r in
+      (k.0, record { runs = r; key = k.1 })
+
+  -- one that is over
+  valued_over : (calls : List Call) → AllByRecursion GivenBytes calls → (since : History) → Over n (history s m calls) since
+      → (value : List ℕ) × EndedSession s m calls n value since
+  valued_over [] given since o = elim o [ ]
+  valued_over (c ∷ before) given since (over.ends {since = old} x d) = let v = valued before given.1 old x in (v.0, ends c v.1 d)
+  valued_over (c ∷ before) given since (over.stays x) = let v = valued_over before given.1 since x in (v.0, stays c v.1)
+
+  valued_any : (calls : List Call) → AllByRecursion GivenBytes calls → (since : History) → Runs n (history s m calls) since ⊎ Over n (history s m calls) since
+      → (value : List ℕ) × LinkSession s m calls n value since
+  valued_any calls given since (inl x) = let v = valued calls given since x in (v.0, inl v.1)
+  valued_any calls given since (inr x) = let v = valued_over calls given since x in (v.0, inr v.1)
+
+pub every_session : EverySession
+every_session s law m f calls given n since x = valued_any s law m f n calls given since x

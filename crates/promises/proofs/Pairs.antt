@@ -1,5 +1,6 @@
 -- Two link sessions with equal link keys hand out in order.
-use Rattle.std.proofs.Common.{◌≡◌, ℕ, ◌+◌, Bool, true, false, cond, not, ltb, leb, List, [], ◌∷◌, ◌++◌, length, Ok, Err, Result, sym, refl, ap, ◌∙◌, subst, append-nil}
+use Rattle.std.proofs.Common.{◌≡◌, ℕ, ◌+◌, Bool, true, false, cond, not, ltb, leb, List, [], ◌∷◌, ◌++◌, length, Ok, Err, Result, sym, refl, ap, ◌∙◌, subst, inl, inr, append-nil}
+use Rattle.std.specs.List.{AllByRecursion}
 use Rattle.suite.specs.declared.types.KeyKind.TheVariants.{LinkKey}
 use Rattle.suite.specs.declared.types.Denial.{Denial}
 use Rattle.suite.specs.Numbers.{role_byte}
@@ -9,15 +10,15 @@ use Rattle.suite.specs.Calls.{no_room, sealed}
 use Rattle.protocol.specs.Models.{Model}
 use Rattle.protocol.specs.Steps.{is_empty, record_length}
 use Rattle.protocol.specs.Calls.{Turn, Call, invoke, send, retrieve_data, retrieve_secret, terminate, frame, release, turn, sending}
-use Rattle.histories.specs.Histories.{Entry, History, after, entered, destroyed_in, member, confirms, given, hands, handing, handed, sent, sent_in}
-use Rattle.histories.specs.Sessions.{InSession, LinkSession, running, over, last_entry, root_of, serial_of, sealed_by, encs, enc_in, numbers, OnlyCopies, Part, Begins, NoneTwice}
-use Rattle.promises.specs.Promises.{Ordered}
+use Rattle.histories.specs.Histories.{Entry, History, Fresh, GivenBytes, after, entered, destroyed_in, member, confirms, given, hands, handing, handed, sent, sent_in}
+use Rattle.histories.specs.Sessions.{InSession, EndedSession, ends, stays, LinkSession, next_entry, sealed_by, encs, enc_in, numbers, OnlyCopies}
+use Rattle.promises.specs.Promises.{KindsOpenAlike, AlikeBothWays, Follows, Ordered}
 use Rattle.promises.proofs.Cases.{both, clash}
 use Rattle.promises.proofs.Forms.{value_formed}
 use Rattle.promises.proofs.Ledgers.{End, Ledger}
 use Rattle.promises.proofs.Duos.{in_order, no_gap}
 use Rattle.promises.proofs.Sounds.{has_link, end_of}
-use Rattle.promises.proofs.Runs.{holds}
+use Rattle.promises.proofs.Runs.{holds, root_after}
 use Rattle.promises.proofs.Askings.{role_ok, asks_well}
 
 -- an end and its ledger, from the run that leads to it
@@ -30,21 +31,25 @@ record Ended (s : Scheme) (value root : List ℕ) (serial : ℕ) (since : Histor
   pub value16 : Bytes16 value
   pub ledger : Ledger s value (record { root = root; serial = serial; role = role }) since number held
 
-ended : (s : Scheme) → Lawful s → (value : List ℕ) (since : History) (x : InSession s value since) → Ended s value (after s x.start x.calls).means.root x.serial since
-ended s law value since x =
-    let m = after s x.start x.calls in
-    let H = holds s law x.start x.fresh x.calls x.bytes in
-    let fits = H.all x.serial since x.runs in
+ended : (s : Scheme) → Lawful s → (m : Model) → Fresh m → (calls : List Call) → AllByRecursion GivenBytes calls
+    → (n : ℕ) (value : List ℕ) (since : History) → InSession s m calls n value since → Ended s value m.means.root n since
+ended s law m fresh calls given n value since x =
+    let m' = after s m calls in
+    let H = holds s law m fresh calls given in
+    let fits = H.all n since x.runs in
     let formed = (asks_well s law H.sound).formed in
-    let told : Ledger s value (end_of m) since m.number m.held = fits.ledger value (sym (ap (λ z. value_in m.means.live LinkKey z) fits.key) ∙ x.key) in
+    let same = root_after s law m fresh calls given in
+    let told : Ledger s value (end_of m') since m'.number m'.held = fits.ledger value (sym (ap (λ z. value_in m'.means.live LinkKey z) fits.key) ∙ x.key) in
+    let by_key : Ledger s value (record { root = m'.means.root; serial = n; role = role_byte m'.role }) since m'.number m'.held
+    = subst (λ k. Ledger s value (record { root = m'.means.root; serial = k; role = role_byte m'.role }) since m'.number m'.held) (sym fits.key) told in
     record {
-      number = m.number;
-      held = m.held;
-      role = role_byte m.role;
-      ok = role_ok m.role;
-      root16 = formed.root;
-      value16 = value_formed m.means.live LinkKey x.serial value formed.values x.key;
-      ledger = subst (λ k. Ledger s value (record { root = m.means.root; serial = k; role = role_byte m.role }) since m.number m.held) (sym fits.key) told;
+      number = m'.number;
+      held = m'.held;
+      role = role_byte m'.role;
+      ok = role_ok m'.role;
+      root16 = fresh.formed.root;
+      value16 = value_formed m'.means.live LinkKey n value formed.values x.key;
+      ledger = subst (λ r. Ledger s value (record { root = r; serial = n; role = role_byte m'.role }) since m'.number m'.held) same by_key;
     }
 
 -- a call that destroys no key
@@ -108,36 +113,62 @@ record Core (s : Scheme) (value root : List ℕ) (serial : ℕ) (mine : History)
   pub handeds : handed since ≡ handed mine
   pub only : (copies : List (List ℕ)) → OnlyCopies copies mine → OnlyCopies copies since
 
-core : (s : Scheme) → Lawful s → (value : List ℕ) {mine : History} (x : LinkSession s value mine) → Core s value (root_of x) (serial_of x) mine
-core s law value (running {since} x) = record { since = since; end = ended s law value since x; sents = refl; sealeds = refl; handeds = refl; only = λ copies o. o }
-core s law value (over {since} x c d) =
-    let e = last_entry x c in
-    let p = last_plain s (after s x.start x.calls) c x.serial d in
-    record {
-      since = since;
-      end = ended s law value since x;
-      sents = sym (ap (λ z. sent since ++ z) p.unsent ∙ append-nil (sent since));
-      sealeds = sym (ap (λ z. encs since ++ z) p.unsealed ∙ append-nil (encs since));
-      handeds = sym (ap (λ b. handed since ++ cond b (e.written ∷ []) []) p.unhanded ∙ append-nil (handed since));
-      only = λ copies o. o.1;
-    }
+module _ (s : Scheme) (law : Lawful s) (m : Model) (fresh : Fresh m) where
+  core_running : (calls : List Call) → AllByRecursion GivenBytes calls → (n : ℕ) (value : List ℕ) (since : History)
+      → InSession s m calls n value since → Core s value m.means.root n since
+  core_running calls given n value since x = record {
+    since = since;
+    end = ended s law m fresh calls given n value since x;
+    sents = refl;
+    sealeds = refl;
+    handeds = refl;
+    only = λ copies o. o;
+  }
 
--- what Ordered says of two histories, by what was sealed, handed out and sent
-abbrev Follows : (s t : Scheme) → List ℕ → List ℕ → ℕ → List ℕ → ℕ → List (List ℕ) → List (List ℕ) → List (List ℕ) → List (List ℕ) → Type 0
-Follows s t value root serial root' serial' mine theirs out told = Part out told × (NoneTwice (numbers s root serial value mine) (numbers t root' serial' value theirs) → Begins out told)
+  core_ended : (n : ℕ) (value : List ℕ) {calls : List Call} {mine : History} → EndedSession s m calls n value mine
+      → AllByRecursion GivenBytes calls → Core s value m.means.root n mine
+  core_ended n value (ends {calls} {since} c x d) given =
+      let e = next_entry s m calls c in
+      let p = last_plain s (after s m calls) c n d in
+      record {
+        since = since;
+        end = ended s law m fresh calls given.1 n value since x;
+        sents = sym (ap (λ z. sent since ++ z) p.unsent ∙ append-nil (sent since));
+        sealeds = sym (ap (λ z. encs since ++ z) p.unsealed ∙ append-nil (encs since));
+        handeds = sym (ap (λ b. handed since ++ cond b (e.written ∷ []) []) p.unhanded ∙ append-nil (handed since));
+        only = λ copies o. o.1;
+      }
+  core_ended n value (stays c x) given = core_ended n value x given.1
 
+  core : (calls : List Call) → AllByRecursion GivenBytes calls → (n : ℕ) (value : List ℕ) (mine : History)
+      → LinkSession s m calls n value mine → Core s value m.means.root n mine
+  core calls given n value mine (inl x) = core_running calls given n value mine x
+  core calls given n value mine (inr x) = core_ended n value x given
+
+-- what is sealed, handed out and sent, in other words
 module _ (s t : Scheme) (value root : List ℕ) (serial : ℕ) (root' : List ℕ) (serial' : ℕ) where
-  same_lists : {a a' b b' h h' k k' : List (List ℕ)} → a ≡ a' → b ≡ b' → h ≡ h' → k ≡ k' → Follows s t value root serial root' serial' a b h k → Follows s t value root serial root' serial' a' b' h' k'
+  same_lists : {a a' b b' h h' k k' : List (List ℕ)} → a ≡ a' → b ≡ b' → h ≡ h' → k ≡ k'
+      → Follows h k (numbers s root serial value a) (numbers t root' serial' value b)
+      → Follows h' k' (numbers s root serial value a') (numbers t root' serial' value b')
   same_lists p q r u f = rw (← p, ← q, ← r, ← u) f
 
 pub ordered : Ordered
-ordered s t law law' kind value mine theirs one other only =
-    let x = core s law value one in
-    let y = core t law' value other in
-    let z : End = record { root = root_of one; serial = serial_of one; role = x.end.role } in
-    let z' : End = record { root = root_of other; serial = serial_of other; role = y.end.role } in
+ordered s t law law' alike m m' fresh fresh' calls calls' given given' value n n' mine theirs one other only =
+    let x = core s law m fresh calls given n value mine one in
+    let y = core t law' m' fresh' calls' given' n' value theirs other in
+    let z : End = record { root = m.means.root; serial = n; role = x.end.role } in
+    let z' : End = record { root = m'.means.root; serial = n'; role = y.end.role } in
     let all : encs x.since ++ encs y.since ≡ encs mine ++ encs theirs = ap (λ c. c ++ encs y.since) x.sealeds ∙ ap (λ c. encs mine ++ c) y.sealeds in
     let only' : OnlyCopies (encs x.since ++ encs y.since) x.since = subst (λ c. OnlyCopies c x.since) (sym all) (x.only (encs mine ++ encs theirs) only) in
-    let front = in_order s t law law' kind value z z' x.end.ok y.end.ok x.end.root16 y.end.root16 x.end.value16 x.end.ledger y.end.ledger only' in
-    let whole = no_gap s t law law' kind value z z' x.end.ok y.end.ok x.end.root16 y.end.root16 x.end.value16 x.end.ledger y.end.ledger only' in
-    same_lists s t value (root_of one) (serial_of one) (root_of other) (serial_of other) x.sealeds y.sealeds x.handeds y.sents (front, whole)
+    let front = in_order s t law law' alike value z z' x.end.ok y.end.ok x.end.root16 y.end.root16 x.end.value16 x.end.ledger y.end.ledger only' in
+    let whole = no_gap s t law law' alike value z z' x.end.ok y.end.ok x.end.root16 y.end.root16 x.end.value16 x.end.ledger y.end.ledger only' in
+    same_lists s t value m.means.root n m'.means.root n' x.sealeds y.sealeds x.handeds y.sents (record { part = front; begins = whole })
+
+pub kinds_alike : KindsOpenAlike
+kinds_alike s t kind = record { firsts = kind.firsts; opens = kind.opens }
+
+pub both_ways : AlikeBothWays
+both_ways s t alike = record {
+  firsts = sym alike.firsts;
+  opens = λ root value payload serial r v b. sym (alike.opens root value payload serial r v b);
+}

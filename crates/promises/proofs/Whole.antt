@@ -1,7 +1,13 @@
 -- The promises of specs/, whole.
 use Rattle.promises.specs.Promises.{Promises}
-use Rattle.promises.proofs.Keeping.{every_run}
-use Rattle.promises.proofs.Pairs.{ordered}
+use Rattle.promises.proofs.Keeping.{every_run, every_session}
+use Rattle.promises.proofs.Pairs.{kinds_alike, both_ways, ordered}
 
 pub promises_hold : Promises
-promises_hold = (every_run, ordered)
+promises_hold = record {
+  every_run = every_run;
+  every_session = every_session;
+  kinds_alike = kinds_alike;
+  both_ways = both_ways;
+  ordered = ordered;
+}

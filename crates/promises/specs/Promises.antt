@@ -1,12 +1,12 @@
 -- What every run of calls keeps, and what two link sessions under equal link keys keep.
-use Rattle.std.specs.Prelude.{◌≡◌, ◌≢◌, ℕ, ◌+◌, ◌≤◌, Bool, true, false, List, [], ◌∷◌, ◌++◌, map, length, Err, Result}
+use Rattle.std.specs.Prelude.{◌≡◌, ◌≢◌, ℕ, ◌+◌, ◌≤◌, ◌⊎◌, Bool, true, false, List, [], ◌∷◌, ◌++◌, map, length, Some, Err, Result}
 use Rattle.std.specs.List.{AllByRecursion}
 use Rattle.suite.specs.declared.types.Role.{Role}
-use Rattle.suite.specs.declared.types.KeyKind.TheVariants.{SharedSecret}
+use Rattle.suite.specs.declared.types.KeyKind.TheVariants.{SharedSecret, LinkKey}
 use Rattle.suite.specs.declared.types.Denial.{Denial}
 use Rattle.suite.specs.declared.types.Denial.TheVariants.{Unfit, Unknown}
 use Rattle.suite.specs.Numbers.{role_byte}
-use Rattle.suite.specs.Meanings.{Meaning, WellFormed}
+use Rattle.suite.specs.Meanings.{Meaning, Bytes, Bytes16, WellFormed, value_in}
 use Rattle.suite.specs.Schemes.{Scheme, Lawful, OneKind}
 use Rattle.suite.specs.Calls.{adding, offered, agreed, derived, checked, revealed, sealed, opened, destroy_answer}
 use Rattle.protocol.specs.declared.states.State.{State}
@@ -15,7 +15,7 @@ use Rattle.protocol.specs.Models.{Model, without_key}
 use Rattle.protocol.specs.Calls.{Call}
 use Rattle.histories.specs.Histories.{History, Fresh, GivenBytes, after, history, made, destroyed, less, Distinct, Runs, Running, sent, taken, handing, handed}
 use Rattle.histories.specs.Records.{link_in, Over, Session, Way, was_sent, was_handed, charges, those}
-use Rattle.histories.specs.Sessions.{encs, numbers, OnlyCopies, Part, Begins, LinkSession, root_of, serial_of, NoneTwice}
+use Rattle.histories.specs.Sessions.{encs, numbers, OnlyCopies, Part, Begins, LinkSession, NoneTwice}
 
 -- Keys.
 
@@ -43,6 +43,8 @@ HandedInSession (e ∷ h) = (handing e ≡ true → Running h) × HandedInSessio
 pub record SessionsKept (s : Scheme) (m : Model) (h : History) : Type 0 where
   pub runs : m.state ≡ ConfirmedSch → Running h
   pub confirmed : (n : ℕ) (since : History) → Runs n h since → m.state ≡ ConfirmedSch
+  -- the session's number is the serial of a live link key
+  pub key : (n : ℕ) (since : History) → Runs n h since → (value : List ℕ) × (value_in m.means.live LinkKey n ≡ Some value)
   -- there the number is the first, and one more for each record sent or taken in since the start; it never passes the last
   pub number : (n : ℕ) (since : History) → Runs n h since → m.number ≡ s.first + length (sent since) + length (taken since)
   pub last : m.state ≡ ConfirmedSch → m.number ≤ s.final
@@ -120,12 +122,48 @@ pub record Kept (s : Scheme) (m : Model) (h : History) : Type 0 where
 abbrev pub EveryRun : Type 0
 EveryRun = (s : Scheme) → Lawful s → (m : Model) → Fresh m → (calls : List Call) → AllByRecursion GivenBytes calls → Kept s (after s m calls) (history s m calls)
 
--- Two sessions with equal link keys, over suites of one kind: if mine gets no ENC but copies of the records sent in the two,
--- the data handed out in mine are an in-order part of the data sent in theirs, and begin them if no number was sent in both.
-abbrev pub Ordered : Type 0
-Ordered = (s t : Scheme) → Lawful s → Lawful t → OneKind s t → (value : List ℕ) (mine theirs : History) (one : LinkSession s value mine) (other : LinkSession t value theirs) → OnlyCopies (encs mine ++ encs theirs) mine →
-    Part (handed mine) (sent theirs)
-    × (NoneTwice (numbers s (root_of one) (serial_of one) value (encs mine)) (numbers t (root_of other) (serial_of other) value (encs theirs)) → Begins (handed mine) (sent theirs))
+-- every link session of a run has a link key's value, while it runs and once it is over
+abbrev pub EverySession : Type 0
+EverySession = (s : Scheme) → Lawful s → (m : Model) → Fresh m → (calls : List Call) → AllByRecursion GivenBytes calls →
+    (n : ℕ) (since : History) → Runs n (history s m calls) since ⊎ Over n (history s m calls) since →
+    (value : List ℕ) × LinkSession s m calls n value since
 
-abbrev pub Promises : Type 0
-Promises = EveryRun × Ordered
+-- Two sessions with equal link keys.
+
+-- what is asked of the two kinds of suite: the same first number, and payloads that open to the same
+pub record OpensAlike (s t : Scheme) : Type 0 where
+  pub firsts : s.first ≡ t.first
+  pub opens : (root value payload : List ℕ) (serial : ℕ) → Bytes16 root → Bytes16 value → Bytes payload → s.open_of root serial value payload ≡ t.open_of root serial value payload
+
+-- so it is with suites of one kind
+abbrev pub KindsOpenAlike : Type 0
+KindsOpenAlike = (s t : Scheme) → OneKind s t → OpensAlike s t
+
+-- and with the two exchanged
+abbrev pub AlikeBothWays : Type 0
+AlikeBothWays = (s t : Scheme) → OpensAlike s t → OpensAlike t s
+
+-- what was handed out in one session, beside what was sent in the other, and the numbers of the records sent in the two
+pub record Follows (out told : List (List ℕ)) (mine theirs : List ℕ) : Type 0 where
+  -- it is a part of what was sent, in its order
+  pub part : Part out told
+  -- and its beginning if no number was sent in both
+  pub begins : NoneTwice mine theirs → Begins out told
+
+-- For two fresh entities over suites that open alike, and a link session of the calls to each, with one value of the two link keys: if
+-- mine gets no ENC but copies of the records sent in the two, what is handed out in mine follows what is sent in theirs.
+abbrev pub Ordered : Type 0
+Ordered = (s t : Scheme) → Lawful s → Lawful t → OpensAlike s t →
+    (m m' : Model) → Fresh m → Fresh m' →
+    (calls calls' : List Call) → AllByRecursion GivenBytes calls → AllByRecursion GivenBytes calls' →
+    (value : List ℕ) (n n' : ℕ) (mine theirs : History) → LinkSession s m calls n value mine → LinkSession t m' calls' n' value theirs →
+    OnlyCopies (encs mine ++ encs theirs) mine →
+    Follows (handed mine) (sent theirs) (numbers s m.means.root n value (encs mine)) (numbers t m'.means.root n' value (encs theirs))
+
+-- all of it together
+pub record Promises : Type 0 where
+  pub every_run : EveryRun
+  pub every_session : EverySession
+  pub kinds_alike : KindsOpenAlike
+  pub both_ways : AlikeBothWays
+  pub ordered : Ordered
