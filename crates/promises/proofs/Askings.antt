@@ -1,28 +1,24 @@
 -- What an entity asks of its suite is never denied as unfit or unknown.
 use Rattle.std.proofs.Common.{◌≡◌, ◌≢◌, ℕ, ◌+◌, ◌≤◌, Bool, true, false, cond, not, ◌||◌, eqb, ltb, List, [], ◌∷◌, length, Some, Ok, Err, Option, Result, sym, refl, ap, subst, arith}
 use Rattle.std.proofs.lemmas.Bool.{ne_eqb, eq-eqb, le-ltb, or_from, or_left, or_right, not_from_true}
+use Rattle.std.specs.Prelude.{is_some}
 use Rattle.frame.specs.declared.types.Service.{Service}
 use Rattle.suite.specs.declared.types.Role.{Role}
-use Rattle.suite.specs.declared.types.Role.TheVariants.{Sender, Recipient}
 use Rattle.suite.specs.declared.types.KeyKind.TheVariants.{SharedSecret, LinkKey}
 use Rattle.suite.specs.declared.types.Denial.{Denial}
 use Rattle.suite.specs.declared.types.Denial.TheVariants.{BadOffer, Spent, Unfit}
 use Rattle.suite.specs.Numbers.{role_byte}
-use Rattle.suite.specs.Meanings.{Meaning, value_in, is_live}
+use Rattle.suite.specs.Meanings.{Meaning, keyring_of, value_in, is_live}
 use Rattle.suite.specs.Schemes.{Scheme, Lawful, ok_role}
 use Rattle.suite.specs.Calls.{wrong_seed, no_room, spent, adding, known, offered, agreed, destroy_answer}
 use Rattle.protocol.specs.declared.states.State.{State}
 use Rattle.protocol.specs.declared.states.State.TheVariants.{Idle, Select, EstablishedSender, EstablishedRecipient, ConfirmedSse, ConfirmedSch}
 use Rattle.protocol.specs.Numbers.{state_mark}
-use Rattle.protocol.specs.Models.{Model, without_key}
-use Rattle.promises.specs.Promises.{WellAsked, ServesAsSecret, ServesAsLink, AsksWell, has_secret}
+use Rattle.protocol.specs.Models.{Model, has_secret, has_link, without_key}
+use Rattle.promises.specs.Promises.{WellAsked, ServesAsSecret, ServesAsLink, AsksWell}
 use Rattle.promises.proofs.Cases.{both, clash}
-use Rattle.promises.proofs.Forms.{Base, One, Two, none_live, one_live, two_live, secret_key, link_key, none_formed, one_formed, two_formed, secret_there, link_there}
+use Rattle.promises.proofs.Forms.{role_ok, Base, One, Two, none_live, one_live, two_live, secret_key, link_key, none_formed, one_formed, two_formed, secret_there, link_there}
 use Rattle.promises.proofs.Sounds.{unlinked, in_link, SecretOnly, Sound, at_idle, at_select, at_secret, at_sch}
-
-pub role_ok : (r : Role) → ok_role (role_byte r) ≡ true
-role_ok Sender = refl
-role_ok Recipient = refl
 
 -- Answers that are no such denial.
 
@@ -60,7 +56,7 @@ offer_asked s m seed room e h = past (wrong_seed seed || no_room room) _ (or_fro
 agreement_asked : (s : Scheme) (m : Meaning) (seed offer : List ℕ) (role : Role) → length seed ≡ 16 → WellAsked (agreed s m seed offer (role_byte role))
 agreement_asked s m seed offer role e =
     past (wrong_seed seed || not (ok_role (role_byte role))) _ (or_from (wrong_seed seed) (not (ok_role (role_byte role))) (seed_fits seed e) (role_fits role))
-    (both (not (s.fit_of m.root offer)) WellAsked (λ _. bad_offer) (λ _. both (spent m) WellAsked (λ _. is_spent) (λ _. answered _)))
+    (both (not (s.fit_of (keyring_of m) offer)) WellAsked (λ _. bad_offer) (λ _. both (spent m) WellAsked (λ _. is_spent) (λ _. answered _)))
 
 secret_serves : (s : Scheme) (m : Meaning) (key : ℕ) (v : List ℕ) → value_in m.live SharedSecret key ≡ Some v → ServesAsSecret s m key
 secret_serves s m key v e = record {
@@ -102,6 +98,14 @@ with_secret EstablishedRecipient k e = cc
 with_secret ConfirmedSse k e = cc
 with_secret ConfirmedSch k e = cc
 
+in_sch : (state : State) → has_link state ≡ true → state ≡ ConfirmedSch
+in_sch Idle e = absurd (cc)
+in_sch Select e = absurd (cc)
+in_sch EstablishedSender e = absurd (cc)
+in_sch EstablishedRecipient e = absurd (cc)
+in_sch ConfirmedSse e = absurd (cc)
+in_sch ConfirmedSch e = refl
+
 alone_live : (n : ℕ) (v : List ℕ) → is_live (secret_key n v ∷ []) n ≡ true
 alone_live n v = or_left (eqb n n) false (eq-eqb n n refl)
 
@@ -121,6 +125,7 @@ module _ (s : Scheme) (law : Lawful s) where
   serves_none : (root : List ℕ) (last n : ℕ) {state : State} {service : Service} {role : Role} {seed : List ℕ} {number : ℕ} → Base root last n → state ≢ ConfirmedSch → has_secret state ≡ false → (state ≡ Select → length seed ≡ 16) → AsksWell s (unlinked (none_live root last n) state service role seed number 0)
   serves_none root last n b unlinked' none kept = record {
     formed = none_formed root last n b;
+    live = record { secret = λ some. clash _ none some; link = λ e. absurd (unlinked' (in_sch _ e)) };
     offer = λ seed room e h. offer_asked s (none_live root last n) seed room e h;
     agreement = λ seed offer role e. agreement_asked s (none_live root last n) seed offer role e;
     kept_seed = kept;
@@ -134,6 +139,7 @@ module _ (s : Scheme) (law : Lawful s) where
   serves_secret : (root : List ℕ) (last n : ℕ) (v : List ℕ) {state : State} {service : Service} {role : Role} {seed : List ℕ} {number : ℕ} → SecretOnly state → One root last n v → AsksWell s (unlinked (one_live root last n v) state service role seed number n)
   serves_secret root last n v k one = record {
     formed = one_formed root last n v one;
+    live = record { secret = λ _. ap is_some (secret_there n v []); link = λ e. absurd (below_link k (in_sch _ e)) };
     offer = λ seed room e h. offer_asked s (one_live root last n v) seed room e h;
     agreement = λ seed offer role e. agreement_asked s (one_live root last n v) seed offer role e;
     kept_seed = λ e. absurd (above_select k e);
@@ -147,6 +153,7 @@ module _ (s : Scheme) (law : Lawful s) where
   serves_link : (root : List ℕ) (last n : ℕ) (v w : List ℕ) {role : Role} {seed : List ℕ} {number : ℕ} {held : List ℕ} → Two root last n v w → AsksWell s (in_link (two_live root last n v w) role seed number held n)
   serves_link root last n v w two = record {
     formed = two_formed root last n v w two;
+    live = record { secret = λ _. ap is_some (secret_there n v (link_key (n + 1) w ∷ [])); link = λ _. ap is_some (link_there n v w) };
     offer = λ seed room e h. offer_asked s (two_live root last n v w) seed room e h;
     agreement = λ seed offer role e. agreement_asked s (two_live root last n v w) seed offer role e;
     kept_seed = λ e. (cc);

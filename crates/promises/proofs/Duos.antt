@@ -1,7 +1,7 @@
 -- Two sessions under one link key's value.
 use Rattle.std.proofs.Common.{◌≡◌, ℕ, ◌+◌, ◌<◌, ◌≤◌, true, false, eqb, List, [], ◌∷◌, ◌++◌, Some, None, Option, sym, ap, ◌∙◌, subst, inl, inr, append_assoc, arith}
 use Rattle.std.proofs.lemmas.Bool.{eq-eqb}
-use Rattle.suite.specs.Meanings.{Bytes, Bytes16}
+use Rattle.suite.specs.Meanings.{Formed, Bytes, Bytes16}
 use Rattle.suite.specs.Schemes.{Scheme, Lawful, ok_role}
 use Rattle.histories.specs.Histories.{History, sent, handed}
 use Rattle.histories.specs.Sessions.{encs, OnlyCopies, Part, Begins, NoneTwice}
@@ -22,14 +22,14 @@ abbrev plain_in : Option (ℕ × ℕ × List ℕ) → List ℕ
 plain_in None = []
 plain_in (Some t) = t.2
 
-module _ (s t : Scheme) (law : Lawful s) (law' : Lawful t) (alike : OpensAlike s t) (value : List ℕ) (z z' : End) (ok : ok_role z.role ≡ true) (ok' : ok_role z'.role ≡ true) (r16 : Bytes16 z.root) (r16' : Bytes16 z'.root) (v16 : Bytes16 value) {mine theirs : History} {n n' : ℕ} {held held' : List ℕ} (L : Ledger s value z mine n held) (L' : Ledger t value z' theirs n' held') (only : OnlyCopies (encs mine ++ encs theirs) mine) where
+module _ (s t : Scheme) (law : Lawful s) (law' : Lawful t) (alike : OpensAlike s t) (value : List ℕ) (z z' : End) (ok : ok_role z.role ≡ true) (ok' : ok_role z'.role ≡ true) (f : Formed z.keyring) (f' : Formed z'.keyring) (v16 : Bytes16 value) {mine theirs : History} {n n' : ℕ} {held held' : List ℕ} (L : Ledger s value z mine n held) (L' : Ledger t value z' theirs n' held') (only : OnlyCopies (encs mine ++ encs theirs) mine) where
   -- a copy of one's own record is not taken in
   not_own : (who k : ℕ) (payload x : List ℕ) → unseal s value z payload ≡ Some (who, k, x) → eqb who z.role ≡ false → Sealed s value z (sent_of s value z L) (0x14 ∷ payload) → ⊥
   not_own who k payload x opens theirs' r =
       let e = r.is in
       let p : payload ≡ seal s value z r.num r.plain = cc in
       let fit = (sent_good s value z L r.num r.plain r.has).fit in
-      let back = law.opens z.root z.root value r.plain z.serial z.serial z.role r.num r16 r16 v16 ok fit in
+      let back = law.opens z.keyring z.keyring value r.plain z.serial z.serial z.role r.num f f v16 ok fit in
       let same : Some (who, k, x) ≡ Some (z.role, r.num, r.plain) = sym opens ∙ ap (unseal s value z) p ∙ back in
       clash (eqb who z.role) theirs' (eq-eqb who z.role (ap who_in same))
 
@@ -39,9 +39,9 @@ module _ (s t : Scheme) (law : Lawful s) (law' : Lawful t) (alike : OpensAlike s
       let e = r.is in
       let p : payload ≡ seal t value z' r.num r.plain = cc in
       let fit = (sent_good t value z' L' r.num r.plain r.has).fit in
-      let back = law'.opens z'.root z.root value r.plain z'.serial z.serial z'.role r.num r16' r16 v16 ok' fit in
-      let bytes : Bytes payload = subst (λ y. Bytes y) (sym p) (law'.seal_bytes z'.root value r.plain z'.serial z'.role r.num r16' v16 ok' fit) in
-      let same : Some (who, k, x) ≡ Some (z'.role, r.num, r.plain) = sym opens ∙ alike.opens z.root value payload z.serial r16 v16 bytes ∙ ap (unseal t value z) p ∙ back in
+      let back = law'.opens z'.keyring z.keyring value r.plain z'.serial z.serial z'.role r.num f' f v16 ok' fit in
+      let bytes : Bytes payload = subst (λ y. Bytes y) (sym p) (law'.seal_bytes z'.keyring value r.plain z'.serial z'.role r.num f' v16 ok' fit) in
+      let same : Some (who, k, x) ≡ Some (z'.role, r.num, r.plain) = sym opens ∙ alike.opens z.keyring value payload z.serial f v16 bytes ∙ ap (unseal t value z) p ∙ back in
       subst (λ y. Has y x (sent_of t value z' L')) (sym (ap num_in same)) (subst (λ y. Has r.num y (sent_of t value z' L')) (sym (ap plain_in same)) r.has)
 
   taken_sent : Sub (taken_of s value z L) (sent_of t value z' L')
@@ -62,9 +62,9 @@ module _ (s t : Scheme) (law : Lawful s) (law' : Lawful t) (alike : OpensAlike s
     closed : (k : ℕ) (x : List ℕ) → Has k x (sent_of t value z' L') → k ≤ n → Has k x (taken_of s value z L)
     closed k x h le =
         let g = sent_good t value z' L' k x h in
-        let lo : s.first < k = (let a = g.above in let f = alike.firsts in omega arith) in
+        let lo : s.first < k = (let a = g.above in let same = alike.firsts in omega arith) in
         elim (complete s value z L k lo le) [
-          | inl (y, i) ↦ absurd (apart k (number_told s value z law ok r16 v16 L k y i) (number_told t value z' law' ok' r16' v16 L' k x h))
+          | inl (y, i) ↦ absurd (apart k (number_told s value z law ok f v16 L k y i) (number_told t value z' law' ok' f' v16 L' k x h))
           | inr (y, i) ↦ subst (λ q. Has k q (taken_of s value z L)) (has_same (n' + 1) k y x _ (sent_desc t value z' L') (taken_sent k y i) h) i
         ]
 

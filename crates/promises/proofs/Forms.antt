@@ -1,15 +1,13 @@
 -- Well-formed suites with no key, with a shared secret, and with a link key too.
-use Rattle.std.proofs.Common.{◌≡◌, ℕ, ◌+◌, ◌^◌, ◌<◌, ◌≤◌, Bool, true, false, cond, not, ◌&&◌, ◌||◌, eqb, List, [], ◌∷◌, length, Some, Ok, Err, Result, sym, refl, ap, ◌∙◌, subst, arith}
-use Rattle.std.specs.List.{AllByRecursion}
-use Rattle.std.proofs.lemmas.Bool.{ne_eqb, eq-eqb, eqb-true, eqb-false, or_parts, or_from, not-false}
-use Rattle.suite.specs.declared.types.KeyKind.{KeyKind}
+use Rattle.std.proofs.Common.{◌≡◌, ℕ, ◌+◌, ◌^◌, ◌<◌, ◌≤◌, Bool, true, false, cond, eqb, List, [], ◌∷◌, Some, Ok, Err, Result, refl, arith}
+use Rattle.std.proofs.lemmas.Bool.{ne_eqb, eq-eqb, eqb-false, or_from}
+use Rattle.suite.specs.declared.types.Role.{Role}
+use Rattle.suite.specs.declared.types.Role.TheVariants.{Sender, Recipient}
 use Rattle.suite.specs.declared.types.KeyKind.TheVariants.{SharedSecret, LinkKey}
-use Rattle.suite.specs.declared.types.Denial.{Denial}
-use Rattle.suite.specs.declared.types.Denial.TheVariants as denied
-use Rattle.suite.specs.Meanings.{Key, Meaning, Bytes, Bytes16, WellFormed, value_in, same_kind}
+use Rattle.suite.specs.Numbers.{role_byte}
+use Rattle.suite.specs.Meanings.{Key, Meaning, Bytes, Bytes16, WellFormed, keyring_of, value_in}
 use Rattle.suite.specs.Schemes.{Scheme, Lawful, ok_role}
-use Rattle.suite.specs.Calls.{wrong_seed, spent, agreed, derived, known}
-use Rattle.promises.proofs.Cases.{both}
+use Rattle.suite.specs.Calls.{spent}
 
 -- keys by serial and value
 
@@ -50,16 +48,16 @@ abbrev pub two_live : List ℕ → ℕ → ℕ → List ℕ → List ℕ → Mea
 two_live root last n v w = record { root = root; last = last; newest = n + 1; live = secret_key n v ∷ link_key (n + 1) w ∷ [] }
 
 pub base_of : {m : Meaning} → WellFormed m → Base m.root m.last m.newest
-base_of f = record { root16 = f.root; below = f.newest; word = f.last }
+base_of f = record { root16 = f.keyring.root; below = f.newest; word = f.last }
 
 pub none_formed : (root : List ℕ) (last n : ℕ) → Base root last n → WellFormed (none_live root last n)
-none_formed root last n b = record { root = b.root16; newest = b.below; last = b.word; values = tt; serials = tt; apart = tt }
+none_formed root last n b = record { keyring = record { root = b.root16; values = tt; serials = tt; apart = tt }; newest = b.below; last = b.word }
 
 pub one_formed : (root : List ℕ) (last n : ℕ) (v : List ℕ) → One root last n v → WellFormed (one_live root last n v)
 one_formed root last n v o =
     let pos : 1 ≤ n = o.pos in
     let self : n ≤ n = omega arith in
-    record { root = o.base.root16; newest = o.base.below; last = o.base.word; values = (o.value, tt); serials = ((pos, self), tt); apart = (refl, tt) }
+    record { keyring = record { root = o.base.root16; values = (o.value, tt); serials = ((pos, self), tt); apart = (refl, tt) }; newest = o.base.below; last = o.base.word }
 
 -- two serials in a row differ
 next_differs : (n : ℕ) → eqb (n + 1) n ≡ false
@@ -71,44 +69,33 @@ two_formed root last n v w o =
     let le : n ≤ n + 1 = omega arith in
     let pos' : 1 ≤ n + 1 = omega arith in
     let self : n + 1 ≤ n + 1 = omega arith in
-    record { root = o.base.root16; newest = o.base.below; last = o.base.word; values = (o.value, (o.link, tt)); serials = ((pos, le), ((pos', self), tt)); apart = (or_from (eqb (n + 1) n) false (next_differs n) refl, (refl, tt)) }
-
--- the value of a live key
-pub value_formed : (ks : List Key) (kind : KeyKind) (n : ℕ) (w : List ℕ) → AllByRecursion (λ k. Bytes16 k.value) ks → value_in ks kind n ≡ Some w → Bytes16 w
-value_formed [] kind n w a e = absurd (cc)
-value_formed (k ∷ ks) kind n w a e =
-    both (eqb k.serial n && same_kind k.kind kind) (λ o. o ≡ Some w → Bytes16 w)
-    (λ t q. let y : k.value ≡ w = cc in subst (λ z. Bytes16 z) y a.0)
-    (λ f q. value_formed ks kind n w a.1 q)
-    e
+    record {
+      keyring = record { root = o.base.root16; values = (o.value, (o.link, tt)); serials = ((pos, le), ((pos', self), tt)); apart = (or_from (eqb (n + 1) n) false (next_differs n) refl, (refl, tt)) };
+      newest = o.base.below;
+      last = o.base.word;
+    }
 
 -- an answer under a test is given where the test fails
-pub passes : {A : Type 0} (b : Bool) (e : Denial) (x : Result A Denial) (v : A) → cond b (Err e) x ≡ Ok v → (b ≡ false) × (x ≡ Ok v)
+pub passes : {A E : Type 0} (b : Bool) (e : E) (x : Result A E) (v : A) → cond b (Err e) x ≡ Ok v → (b ≡ false) × (x ≡ Ok v)
 passes true e x v q = absurd (cc)
 passes false e x v q = (refl, q)
+
+pub role_ok : (r : Role) → ok_role (role_byte r) ≡ true
+role_ok Sender = refl
+role_ok Recipient = refl
 
 more_left : (n last : ℕ) → n ≤ last → eqb n last ≡ false → n + 1 ≤ last
 more_left n last h e = let d : n ≡ last → ⊥ = eqb-false n last e in omega arith
 
 -- an agreement leaves a suite with a shared secret
-pub made_one : (s : Scheme) → Lawful s → (root : List ℕ) (last n : ℕ) (seed offer value : List ℕ) (role : ℕ) → Base root last n → Bytes seed → Bytes offer → agreed s (none_live root last n) seed offer role ≡ Ok value → One root last (n + 1) value
-made_one s law root last n seed offer value role base sb ob q =
-    let m = none_live root last n in
-    let r3 : Result (List ℕ) Denial = Ok (s.secret_of root (n + 1) role seed offer) in
-    let r2 : Result (List ℕ) Denial = cond (spent m) (Err denied.Spent) r3 in
-    let r1 : Result (List ℕ) Denial = cond (not (s.fit_of root offer)) (Err denied.BadOffer) r2 in
-    let first = passes (wrong_seed seed || not (ok_role role)) denied.Unfit r1 value q in
-    let second = passes (not (s.fit_of root offer)) denied.BadOffer r2 value first.1 in
-    let third = passes (spent m) denied.Spent r3 value second.1 in
-    let a = or_parts (wrong_seed seed) (not (ok_role role)) first.0 in
-    let long : length seed ≡ 16 = eqb-true (length seed) 16 (not-false (eqb (length seed) 16) a.0) in
-    let ok : ok_role role ≡ true = not-false (ok_role role) a.1 in
-    let fit : s.fit_of root offer ≡ true = not-false (s.fit_of root offer) second.0 in
-    let v16 : Bytes16 (s.secret_of root (n + 1) role seed offer) = law.secret_is root seed offer (n + 1) role base.root16 (record { long = long; bytes = sb }) ob ok fit in
-    let same : s.secret_of root (n + 1) role seed offer ≡ value = cc (third.1) in
-    let left : n + 1 ≤ last = more_left n last base.below third.0 in
+pub made_one : (s : Scheme) → Lawful s → (root : List ℕ) (last n : ℕ) (seed offer : List ℕ) (role : ℕ) → Base root last n → Bytes16 seed → Bytes offer → ok_role role ≡ true
+    → let k = keyring_of (none_live root last n) in
+    s.fit_of k offer ≡ true → spent (none_live root last n) ≡ false → One root last (n + 1) (s.secret_of k role seed offer)
+made_one s law root last n seed offer role base sb ob ok fit free =
+    let f = (none_formed root last n base).keyring in
+    let left : n + 1 ≤ last = more_left n last base.below free in
     let pos : 0 < n + 1 = omega arith in
-    record { base = record { root16 = base.root16; below = left; word = base.word }; pos = pos; value = subst (λ z. Bytes16 z) same v16 }
+    record { base = record { root16 = base.root16; below = left; word = base.word }; pos = pos; value = law.secret_is (keyring_of (none_live root last n)) seed offer role f sb ob ok fit }
 
 -- the shared secret of a suite that has no other key, or a link key too
 pub secret_there : (n : ℕ) (v : List ℕ) (ks : List Key) → value_in (secret_key n v ∷ ks) SharedSecret n ≡ Some v
@@ -121,11 +108,9 @@ link_there n v w =
     rw (apart, self)
 
 -- a derivation leaves a suite with a link key too
-pub made_two : (s : Scheme) → Lawful s → (root : List ℕ) (last n : ℕ) (v value : List ℕ) → One root last n v → derived s (one_live root last n v) n ≡ Ok value → Two root last n v value
-made_two s law root last n v value o q =
-    let m = one_live root last n v in
-    let link : List ℕ → Result (List ℕ) Denial = λ x. cond (spent m) (Err denied.Spent) (Ok (s.link_of root n x (n + 1))) in
-    let p = passes (spent m) denied.Spent (Ok (s.link_of root n v (n + 1))) value (sym (ap (known link) (secret_there n v [])) ∙ q) in
-    let same : s.link_of root n v (n + 1) ≡ value = cc (p.1) in
-    let left : n + 1 ≤ last = more_left n last o.base.below p.0 in
-    record { base = record { root16 = o.base.root16; below = left; word = o.base.word }; pos = o.pos; value = o.value; link = subst (λ z. Bytes16 z) same (law.link_is root v n (n + 1) o.base.root16 o.value) }
+pub made_two : (s : Scheme) → Lawful s → (root : List ℕ) (last n : ℕ) (v : List ℕ) → One root last n v → spent (one_live root last n v) ≡ false
+    → Two root last n v (s.link_of (keyring_of (one_live root last n v)) n v)
+made_two s law root last n v o free =
+    let f = (one_formed root last n v o).keyring in
+    let left : n + 1 ≤ last = more_left n last o.base.below free in
+    record { base = record { root16 = o.base.root16; below = left; word = o.base.word }; pos = o.pos; value = o.value; link = law.link_is (keyring_of (one_live root last n v)) v n f o.value }

@@ -10,8 +10,8 @@ use Rattle.protocol.specs.declared.states.State.{State}
 use Rattle.protocol.specs.declared.states.State.TheVariants.{Idle, Select, EstablishedSender, EstablishedRecipient, ConfirmedSse, ConfirmedSch}
 use Rattle.protocol.specs.Numbers.{state_mark}
 use Rattle.protocol.specs.Models.{Model}
-use Rattle.protocol.specs.Calls.{Call, invoke, send, retrieve_data, retrieve_secret, terminate, frame, release, Turn, turn, in_state}
-use Rattle.histories.specs.Histories.{Entry, History, Fresh, GivenBytes, after, history, entered, Runs, confirms, sent_in, handing}
+use Rattle.protocol.specs.Calls.{Call, GivenBytes, invoke, send, retrieve_data, retrieve_secret, terminate, frame, release, Turn, turn, in_state}
+use Rattle.histories.specs.Histories.{Entry, History, Fresh, after, history, entered, Runs, confirms, sent_in, handing}
 use Rattle.histories.specs.Records.{link_in, Over, was_sent, was_handed, charged_in}
 use Rattle.histories.specs.Records as over
 use Rattle.histories.specs.Sessions.{InSession, EndedSession, ends, stays, LinkSession}
@@ -38,7 +38,7 @@ handed_at s m (retrieve_data room) e =
     ]
 handed_at s m (retrieve_secret room) e = absurd (cc)
 handed_at s m (terminate room) e = absurd (cc)
-handed_at s m (frame bytes seed room) e = absurd (cc)
+handed_at s m (frame bytes beside room) e = absurd (cc)
 handed_at s m release e = absurd (cc)
 
 all_handed : (s : Scheme) → Lawful s → (m : Model) → Fresh m → (calls : List Call) → AllByRecursion GivenBytes calls → HandedInSession (history s m calls)
@@ -60,7 +60,7 @@ unsent_at s m (send plain room) o =
 unsent_at s m (retrieve_data room) o = none_given (confirms 2 (turn s m (retrieve_data room)).answer)
 unsent_at s m (retrieve_secret room) o = none_given (confirms 2 (turn s m (retrieve_secret room)).answer)
 unsent_at s m (terminate room) o = none_given (confirms 2 (turn s m (terminate room)).answer)
-unsent_at s m (frame bytes seed room) o = none_given (confirms 2 (turn s m (frame bytes seed room)).answer)
+unsent_at s m (frame bytes beside room) o = none_given (confirms 2 (turn s m (frame bytes beside room)).answer)
 unsent_at s m release o = none_given (confirms 2 (turn s m release).answer)
 
 -- where no session is read off there is no link key

@@ -1,7 +1,7 @@
 -- What the calls of one link session sent, took in and handed out.
 use Rattle.std.proofs.Common.{◌≡◌, ℕ, ◌+◌, ◌<◌, ◌≤◌, true, false, cond, ◌||◌, eqb, ◌⊎◌, List, [], ◌∷◌, ◌++◌, Some, Option, sym, refl, ap, ◌∙◌, subst, inl, inr, append_assoc, append-nil, arith}
 use Rattle.std.proofs.lemmas.Bool.{cases_lt, eq-eqb, or_left, or_right}
-use Rattle.suite.specs.Meanings.{Bytes16}
+use Rattle.suite.specs.Meanings.{Keyring, Formed, Bytes16}
 use Rattle.suite.specs.Schemes.{Scheme, Lawful, Sealable, ok_role}
 use Rattle.protocol.specs.Steps.{is_empty}
 use Rattle.histories.specs.Histories.{Entry, History, member, sent, sent_in, handed, handing}
@@ -9,18 +9,18 @@ use Rattle.histories.specs.Sessions.{encs, enc_in, numbers, number_in, opens_to,
 use Rattle.promises.proofs.Books.{member_append}
 use Rattle.promises.proofs.Orders.{Rec, to_data, Has, Desc, desc_more}
 
--- an end of a link session: the root of its suite, the serial of its link key, and its role
+-- an end of a link session: the keyring of its suite, the serial of its link key, and its role
 pub record End : Type 0 where
-  pub root : List ℕ
+  pub keyring : Keyring
   pub serial : ℕ
   pub role : ℕ
 
 -- what it seals and opens, by the value of its link key
 abbrev pub seal : Scheme → List ℕ → End → ℕ → List ℕ → List ℕ
-seal s value z n plain = s.seal_of z.root z.serial value z.role n plain
+seal s value z n plain = s.seal_of z.keyring z.serial value z.role n plain
 
 abbrev pub unseal : Scheme → List ℕ → End → List ℕ → Option (ℕ × ℕ × List ℕ)
-unseal s value z payload = s.open_of z.root z.serial value payload
+unseal s value z payload = s.open_of z.keyring z.serial value payload
 
 -- what one call in a session does: the number and the held data before and after
 pub data Act (s : Scheme) (value : List ℕ) (z : End) (e : Entry) : ℕ → List ℕ → ℕ → List ℕ → Type 0 where
@@ -194,18 +194,18 @@ module _ (s : Scheme) (value : List ℕ) (z : End) where
 
   -- the numbers that ENCs open to
   abbrev pub told : List (List ℕ) → List ℕ
-  told xs = numbers s z.root z.serial value xs
+  told xs = numbers s z.keyring z.serial value xs
 
   told_append : (xs ys : List (List ℕ)) → told (xs ++ ys) ≡ told xs ++ told ys
   told_append [] ys = refl
-  told_append (x ∷ xs) ys = ap (λ y. number_in s z.root z.serial value x ++ y) (told_append xs ys) ∙ sym (append_assoc (number_in s z.root z.serial value x) (told xs) (told ys))
+  told_append (x ∷ xs) ys = ap (λ y. number_in s z.keyring z.serial value x ++ y) (told_append xs ys) ∙ sym (append_assoc (number_in s z.keyring z.serial value x) (told xs) (told ys))
 
   -- the number of each record sent is among those that the session's ENCs open to
-  module _ (law : Lawful s) (ok : ok_role z.role ≡ true) (r16 : Bytes16 z.root) (v16 : Bytes16 value) where
+  module _ (law : Lawful s) (ok : ok_role z.role ≡ true) (f : Formed z.keyring) (v16 : Bytes16 value) where
     pub number_told : {since : History} {n : ℕ} {held : List ℕ} (L : Ledger s value z since n held) (k : ℕ) (x : List ℕ) → Has k x (sent_of L) → member k (told (encs since)) ≡ true
     number_told start k x h = absurd h
     number_told (more {since} {e} {n} L (sends plain a b c d)) k x h =
-        let opens : unseal s value z (seal s value z (n + 1) plain) ≡ Some (z.role, n + 1, plain) = law.opens z.root z.root value plain z.serial z.serial z.role (n + 1) r16 r16 v16 ok d in
+        let opens : unseal s value z (seal s value z (n + 1) plain) ≡ Some (z.role, n + 1, plain) = law.opens z.keyring z.keyring value plain z.serial z.serial z.role (n + 1) f f v16 ok d in
         let new : told (enc_in e) ≡ (n + 1) ∷ [] = ap told b ∙ ap (λ y. opens_to y ++ []) opens in
         let all : told (encs (e ∷ since)) ≡ told (encs since) ++ ((n + 1) ∷ []) = told_append (encs since) (enc_in e) ∙ ap (λ y. told (encs since) ++ y) new in
         ap (member k) all ∙ member_append k (told (encs since)) ((n + 1) ∷ []) ∙

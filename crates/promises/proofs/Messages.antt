@@ -1,6 +1,6 @@
 -- What a frame does in each state is one of the things that a call may do.
-use Rattle.std.proofs.Common.{◌≡◌, ℕ, ◌+◌, ◌*◌, ◌≤◌, Bool, true, false, not, ◌&&◌, ◌||◌, eqb, ltb, List, [], ◌∷◌, length, Some, None, Ok, Err, Option, Result, sym, refl, ap, ◌∙◌, subst, arith}
-use Rattle.std.proofs.lemmas.Bool.{ne_eqb, eq-eqb, ltb-false, eqb-true, or_parts, and_parts, not-false, not-true}
+use Rattle.std.proofs.Common.{◌≡◌, ℕ, ◌+◌, ◌*◌, ◌≤◌, Bool, true, false, cond, not, ◌&&◌, ◌||◌, eqb, ltb, List, [], ◌∷◌, length, Some, None, Ok, Err, Option, Result, sym, refl, ap, ◌∙◌, subst, arith}
+use Rattle.std.proofs.lemmas.Bool.{ne_eqb, ltb-false, eqb-true, or_parts, and_parts, not-false, not-true}
 use Rattle.frame.specs.declared.types.Service.{Service}
 use Rattle.frame.specs.declared.types.Service.TheVariants.{Sse, Sch}
 use Rattle.frame.specs.Numbers.{service_code}
@@ -8,28 +8,29 @@ use Rattle.frame.specs.Frames.{Said, act_req, act_res, vfy_req, vfy_res, enc, tm
 use Rattle.frame.specs.Reading.{Reading, message, refused as unread, fault, reading}
 use Rattle.suite.specs.declared.types.Role.{Role}
 use Rattle.suite.specs.declared.types.Role.TheVariants.{Sender, Recipient}
-use Rattle.suite.specs.declared.types.KeyKind.TheVariants.{LinkKey}
-use Rattle.suite.specs.declared.types.Denial.{Denial}
+use Rattle.suite.specs.declared.types.KeyKind.TheVariants.{SharedSecret, LinkKey}
 use Rattle.suite.specs.Numbers.{role_byte}
-use Rattle.suite.specs.Meanings.{Bytes, Bytes16, value_in}
+use Rattle.suite.specs.Meanings.{Bytes, Bytes16, keyring_of, value_in, value_of}
+use Rattle.suite.proofs.KeyLaws.{value_is}
 use Rattle.suite.specs.Schemes.{Scheme, Lawful}
-use Rattle.suite.specs.Calls.{agreed, derived, opened}
+use Rattle.suite.specs.Calls.{spent}
 use Rattle.protocol.specs.declared.states.State.{State}
 use Rattle.protocol.specs.declared.states.State.TheVariants as st
 use Rattle.protocol.specs.declared.outcomes.Confirmation.TheVariants as conf
 use Rattle.protocol.specs.declared.refusals.Refusal.TheVariants as no
 use Rattle.protocol.specs.declared.faults.SuiteFault.{SuiteFault}
+use Rattle.protocol.specs.declared.faults.SuiteFault.TheVariants.{BadOffer, NoKey}
 use Rattle.protocol.specs.declared.faults.Cause.{Cause}
 use Rattle.protocol.specs.declared.faults.Cause.TheVariants.{Suite}
-use Rattle.protocol.specs.Models.{Model}
-use Rattle.protocol.specs.Steps.{Step, fails, unless, moved, agree_fault, faulty, agreement, link_value, verified, good, opened_record, is_empty, record_length, sequenced, same_service, in_session, on_act_req, on_act_res, on_vfy_req, on_vfy_res, on_enc, entered, linked, confirmed, check_value, by_state, said_by}
+use Rattle.protocol.specs.Models.{Model, Ancillary, link_value, fresh}
+use Rattle.protocol.specs.Steps.{Step, fails, unless, moved, agreement, derivation, verified, good, opened_record, is_empty, record_length, sequenced, same_service, in_session, on_act_req, on_act_res, on_vfy_req, on_vfy_res, on_enc, entered, linked, confirmed, check_value, by_state, said_by}
 use Rattle.protocol.specs.Calls.{Call, frame, settle, blocked, admitted, taken}
 use Rattle.histories.specs.Histories.{listed}
 use Rattle.histories.specs.Sessions.{In, CopyIn, CopyOf}
 use Rattle.promises.proofs.Cases.{both, clash}
-use Rattle.promises.proofs.Forms.{Base, One, Two, none_live, one_live, two_live, made_one, made_two}
+use Rattle.promises.proofs.Forms.{Base, One, Two, none_live, one_live, two_live, passes, role_ok, made_one, secret_there, made_two}
 use Rattle.promises.proofs.Ledgers.{takes, other}
-use Rattle.promises.proofs.Payloads.{opened_is, read_is, fields_bytes}
+use Rattle.promises.proofs.Payloads.{read_is, fields_bytes}
 use Rattle.promises.proofs.Sounds.{unlinked, in_link, SecretOnly, Sound, at_idle, at_select, at_secret, at_sch, Did, outside, inside, agrees, links}
 use Rattle.promises.proofs.Turns.{silent, unmoved, not_linked, did_refused, did_ended}
 
@@ -38,24 +39,41 @@ each : {A : Type 0} (P : Step → Type 0) (m : Model) (r : Result A SuiteFault) 
 each P m (Ok x) f g h = h x refl
 each P m (Err e) f g h = g e
 
--- what the suite answers where no fault is found
-granted : {A : Type 0} (f : Denial → SuiteFault) (r : Result A Denial) (x : A) → faulty f r ≡ Ok x → r ≡ Ok x
-granted f (Ok y) x e = let same : y ≡ x = cc in ap Ok same
-granted f (Err d) x e = absurd (cc)
-
-good_is : (r : Result (Option (ℕ × ℕ × List ℕ)) Denial) (t : ℕ × ℕ × List ℕ) → good r ≡ Ok t → r ≡ Ok (Some t)
-good_is (Ok (Some u)) t e = let same : u ≡ t = cc in ap (λ z. Ok (Some z)) same
-good_is (Ok None) t e = absurd (cc)
-good_is (Err d) t e = absurd (cc)
+good_is : (o : Option (ℕ × ℕ × List ℕ)) (t : ℕ × ℕ × List ℕ) → good o ≡ Ok t → o ≡ Some t
+good_is (Some u) t e = let same : u ≡ t = cc in ap Some same
+good_is None t e = absurd (cc)
 
 -- the next serial is told
 next_listed : (n : ℕ) → listed (n + 1) ≡ (n + 1) ∷ []
 next_listed n = let e : eqb (n + 1) 0 ≡ false = ne_eqb (n + 1) 0 (λ x. omega arith) in rw e
 
+module _ (s : Scheme) (law : Lawful s) {root : List ℕ} {last : ℕ} where
+  -- where the suite agrees it has a shared secret
+  agreed_one : {newest : ℕ} (offer seed : List ℕ) (role : Role) (value : List ℕ) → Base root last newest → Bytes16 seed → Bytes offer
+      → agreement s (fresh (none_live root last newest)) seed offer role ≡ Ok value → One root last (newest + 1) value
+  agreed_one {newest} offer seed role value base sb ob q =
+      let means = none_live root last newest in
+      let k = keyring_of means in
+      let made : Result (List ℕ) SuiteFault = Ok (s.secret_of k (role_byte role) seed offer) in
+      let first = passes (not (s.fit_of k offer)) BadOffer (cond (spent means) (Err NoKey) made) value q in
+      let second = passes (spent means) NoKey made value first.1 in
+      let same : s.secret_of k (role_byte role) seed offer ≡ value = cc (second.1) in
+      subst (One root last (newest + 1)) same (made_one s law root last newest seed offer (role_byte role) base sb ob (role_ok role) (not-false (s.fit_of k offer) first.0) second.0)
+
+  -- where it derives it has a link key too
+  derived_two : (n : ℕ) (v value : List ℕ) → One root last n v
+      → derivation s (record (fresh (one_live root last n v)) { secret = n }) ≡ Ok value → Two root last n v value
+  derived_two n v value one q =
+      let means = one_live root last n v in
+      let made : List ℕ → Result (List ℕ) SuiteFault = λ x. Ok (s.link_of (keyring_of means) n x) in
+      let first = passes (spent means) NoKey (made (value_of means.live SharedSecret n)) value q in
+      let same : s.link_of (keyring_of means) n v ≡ value = cc (first.1, value_is means.live SharedSecret n v (secret_there n v [])) in
+      subst (Two root last n v) same (made_two s law root last n v one first.0)
+
 module _ (s : Scheme) (law : Lawful s) (c : Call) (sep : ℕ) where
   -- a step does what a call may do
   abbrev Does : Model → Step → Type 0
-  Does m step = Did s c m (settle sep step)
+  Does m step = Did s c m (settle m sep step)
 
   does_fail : (cause : Cause) {m : Model} → Sound s m → Does m (fails m cause)
   does_fail cause S = did_ended s c conf.Error _ _ refl S
@@ -66,14 +84,14 @@ module _ (s : Scheme) (law : Lawful s) (c : Call) (sep : ℕ) where
 
   -- Idle and Select
   module _ {root : List ℕ} {last newest : ℕ} {kept : Service} {role : Role} {old : List ℕ} {number : ℕ} (base : Base root last newest) where
-    does_act_req : (service : Service) (pid : ℕ) (offer seed : List ℕ) → Bytes seed → Bytes offer → let m = unlinked (none_live root last newest) st.Idle kept role old number 0 in Does m (on_act_req s m service pid offer seed)
+    does_act_req : (service : Service) (pid : ℕ) (offer seed : List ℕ) → Bytes16 seed → Bytes offer → let m = unlinked (none_live root last newest) st.Idle kept role old number 0 in Does m (on_act_req s m service pid offer seed)
     does_act_req service pid offer seed sb ob =
         let m = unlinked (none_live root last newest) st.Idle kept role old number 0 in
         let S : Sound s m = at_idle base in
         both (not (eqb pid s.pid)) (Does m) (λ _. does_fail _ S)
         (λ _. each (Does m) m (agreement s m seed offer Recipient) _ (λ e. does_fail _ S)
         (λ value q.
-        let one = made_one s law root last newest seed offer value 2 base sb ob (granted agree_fault (agreed s m.means seed offer 2) value q) in
+        let one = agreed_one s law offer seed Recipient value base sb ob q in
         agrees (at_secret st.EstablishedRecipient (record { low = omega arith; high = omega arith }) one) refl refl (record { newest = refl; live = refl; makes = next_listed newest; destroys = refl }) refl))
 
     does_act_res : (offer : List ℕ) → Bytes16 old → Bytes offer → let m = unlinked (none_live root last newest) st.Select kept role old number 0 in Does m (on_act_res s m offer)
@@ -81,20 +99,19 @@ module _ (s : Scheme) (law : Lawful s) (c : Call) (sep : ℕ) where
         let m = unlinked (none_live root last newest) st.Select kept role old number 0 in
         each (Does m) m (agreement s m old offer Sender) _ (λ e. does_fail _ (at_select base long))
         (λ value q.
-        let one = made_one s law root last newest old offer value 1 base long.bytes ob (granted agree_fault (agreed s m.means old offer 1) value q) in
-        let self = eq-eqb (newest + 1) (newest + 1) refl in
-        rw self (agrees (at_secret st.EstablishedSender (record { low = omega arith; high = omega arith }) one) refl refl (record { newest = refl; live = refl; makes = next_listed newest; destroys = refl }) refl))
+        let one = agreed_one s law offer old Sender value base long ob q in
+        agrees (at_secret st.EstablishedSender (record { low = omega arith; high = omega arith }) one) refl refl (record { newest = refl; live = refl; makes = next_listed newest; destroys = refl }) refl)
 
   -- Established
   module _ (state : State) (k : SecretOnly state) {root : List ℕ} {last : ℕ} {role : Role} {seed : List ℕ} {number : ℕ} (n : ℕ) (v : List ℕ) (one : One root last n v) where
-    does_link : (reply : List ℕ) (r : Result (List ℕ) SuiteFault) → let m = unlinked (one_live root last n v) state Sch role seed number n in link_value s m ≡ r → Does m (unless m (linked s m r) (λ x. moved x.0 conf.Established x.1 reply))
+    does_link : (reply : List ℕ) (r : Result (List ℕ) SuiteFault) → let m = unlinked (one_live root last n v) state Sch role seed number n in derivation s m ≡ r → Does m (unless m (linked s m r) (λ x. moved x.0 conf.Established x.1 reply))
     does_link reply (Err e) q = does_fail _ (at_secret state k one)
     does_link reply (Ok value) q =
         let m = unlinked (one_live root last n v) state Sch role seed number n in
         let lo : s.first ≤ s.first = omega arith in
         let below = law.first_below in
         let hi : s.first ≤ s.final = omega arith in
-        links (at_sch (made_two s law root last n v value one (granted _ (derived s m.means n) value q)) lo hi) (not_linked k) refl (record { newest = refl; live = refl; makes = next_listed n; destroys = refl }) refl refl refl refl
+        links (at_sch (derived_two s law n v value one q) lo hi) (not_linked k) refl (record { newest = refl; live = refl; makes = next_listed n; destroys = refl }) refl refl refl refl
 
     does_confirm : (to : Service) (reply : List ℕ) → let m = unlinked (one_live root last n v) state to role seed number n in Does m (unless m (confirmed s m to) (λ x. moved x.0 conf.Established x.1 reply))
     does_confirm Sse reply = outside (at_secret st.ConfirmedSse (record { low = omega arith; high = omega arith }) one) refl (not_linked k) refl (silent refl refl refl)
@@ -110,20 +127,19 @@ module _ (s : Scheme) (law : Lawful s) (c : Call) (sep : ℕ) where
     does_vfy_req service check =
         let m = unlinked (one_live root last n v) state service role seed number n in
         each (Does m) m (verified s m Sender check) _ (λ e. does_fail _ (at_secret state k one))
-        (λ _ _. each (Does m) m (check_value s m Recipient) _ (λ e. does_fail _ (at_secret state k one))
-        (λ own _. does_confirm service (said_by service (vfy_res own))))
+        (λ _ _. does_confirm service (said_by service (vfy_res (check_value s m Recipient))))
 
 -- a record in Confirmed_SCH with nothing held; copy: it came in the frame with SEP 14 and this payload
-module _ (s : Scheme) (law : Lawful s) (bytes seed : List ℕ) (room sep : ℕ) {root : List ℕ} {last n : ℕ} {v w : List ℕ} (role : Role) (old : List ℕ) {number : ℕ} (two : Two root last n v w) (lo : s.first ≤ number) (hi : number ≤ s.final) (payload : List ℕ) (copy : (copies : List (List ℕ)) → CopyIn copies (frame bytes seed room) → In (0x14 ∷ payload) copies) where
+module _ (s : Scheme) (law : Lawful s) (bytes : List ℕ) (beside : Ancillary) (room sep : ℕ) {root : List ℕ} {last n : ℕ} {v w : List ℕ} (role : Role) (old : List ℕ) {number : ℕ} (two : Two root last n v w) (lo : s.first ≤ number) (hi : number ≤ s.final) (payload : List ℕ) (copy : (copies : List (List ℕ)) → CopyIn copies (frame bytes beside room) → In (0x14 ∷ payload) copies) where
   abbrev Takes : Step → Type 0
-  Takes step = Does s law (frame bytes seed room) sep (in_link (two_live root last n v w) role old number [] n) step
+  Takes step = Does s law (frame bytes beside room) sep (in_link (two_live root last n v w) role old number [] n) step
 
-  does_enter : (who num : ℕ) (plain : List ℕ) → let m = in_link (two_live root last n v w) role old number [] n in ((x : List ℕ) → value_in m.means.live LinkKey m.link ≡ Some x → s.open_of root (n + 1) x payload ≡ Some (who, num, plain)) → Takes (entered m plain (sequenced s m (who, num, length plain)))
+  does_enter : (who num : ℕ) (plain : List ℕ) → let m = in_link (two_live root last n v w) role old number [] n in ((x : List ℕ) → value_in m.means.live LinkKey m.link ≡ Some x → s.open_of (keyring_of m.means) (n + 1) x payload ≡ Some (who, num, plain)) → Takes (entered m plain (sequenced s m (who, num, length plain)))
   does_enter who num plain opens =
       let m = in_link (two_live root last n v w) role old number [] n in
       let S : Sound s m = at_sch two lo hi in
       let P : Result Bool Cause → Type 0 = λ r. Takes (entered m plain r) in
-      let bad = λ (cause : Cause). does_fail s law (frame bytes seed room) sep cause S in
+      let bad = λ (cause : Cause). does_fail s law (frame bytes beside room) sep cause S in
       both (not (record_length (length plain))) P (λ _. bad _)
       (λ long. both (eqb num number) P (λ _. inside S refl refl refl refl refl (silent refl refl refl) (unmoved number) (λ x e. other refl refl refl))
       (λ _. both (eqb who (role_byte role)) P (λ _. bad _)
@@ -142,19 +158,19 @@ module _ (s : Scheme) (law : Lawful s) (bytes seed : List ℕ) (room sep : ℕ) 
   does_enc : let m = in_link (two_live root last n v w) role old number [] n in Takes (on_enc s m payload)
   does_enc =
       let m = in_link (two_live root last n v w) role old number [] n in
-      each Takes m (opened_record s m payload) _ (λ e. does_fail s law (frame bytes seed room) sep _ (at_sch two lo hi))
-      (λ t q. does_enter t.0 t.1 t.2 (λ x e. opened_is s m.means m.link payload 255 x t e (good_is (opened s m.means m.link payload 255) t q)))
+      each Takes m (opened_record s m payload) _ (λ e. does_fail s law (frame bytes beside room) sep _ (at_sch two lo hi))
+      (λ t q. does_enter t.0 t.1 t.2 (λ x e. ap (λ y. s.open_of (keyring_of m.means) m.link y payload) (sym (value_is m.means.live LinkKey m.link x e)) ∙ good_is (s.open_of (keyring_of m.means) m.link (link_value m) payload) t q))
 
-module _ (s : Scheme) (law : Lawful s) (bytes seed : List ℕ) (room sep : ℕ) (given : Bytes bytes × Bytes seed) (service : Service) where
+module _ (s : Scheme) (law : Lawful s) (bytes : List ℕ) (beside : Ancillary) (room sep : ℕ) (given : Bytes bytes × Bytes16 beside.seed) (service : Service) where
   abbrev Hears : Model → Said → Type 0
-  Hears m said = Does s law (frame bytes seed room) sep m (by_state s m seed service m.state said)
+  Hears m said = Does s law (frame bytes beside room) sep m (by_state s m beside service m.state said)
 
   abbrev Read : Said → Type 0
   Read said = reading bytes ≡ message (record { service = service; said = said })
 
   hears_idle : (said : Said) → Read said → {root : List ℕ} {last newest : ℕ} {kept : Service} {role : Role} {old : List ℕ} {number : ℕ} → Base root last newest → Hears (unlinked (none_live root last newest) st.Idle kept role old number 0) said
   hears_idle (error p) r base = did_ended s _ conf.Error _ _ refl (at_idle base)
-  hears_idle (act_req pid offer) r base = does_act_req s law _ sep base service pid offer seed given.1 (fields_bytes bytes _ r given.0).1
+  hears_idle (act_req pid offer) r base = does_act_req s law _ sep base service pid offer beside.seed given.1 (fields_bytes bytes _ r given.0).1
   hears_idle said r base = does_fail s law _ sep _ (at_idle base)
 
   hears_select : (said : Said) → Read said → {root : List ℕ} {last newest : ℕ} {kept : Service} {role : Role} {old : List ℕ} {number : ℕ} → Base root last newest → Bytes16 old → Hears (unlinked (none_live root last newest) st.Select kept role old number 0) said
@@ -203,7 +219,7 @@ module _ (s : Scheme) (law : Lawful s) (bytes seed : List ℕ) (room sep : ℕ) 
       clash _ free full)
   hears_enc payload r {role} {old} [] two lo hi free =
       does_in_session s law _ sep service _ (at_sch two lo hi)
-      (λ same. does_enc s law bytes seed room sep role old two lo hi payload (λ copies f. subst (CopyOf copies) (sym (record_bytes payload r same)) f refl))
+      (λ same. does_enc s law bytes beside room sep role old two lo hi payload (λ copies f. subst (CopyOf copies) (sym (record_bytes payload r same)) f refl))
 
   hears_link : (said : Said) → Read said → {root : List ℕ} {last n : ℕ} {v w : List ℕ} {role : Role} {old : List ℕ} {number : ℕ} (held : List ℕ) → Two root last n v w → s.first ≤ number → number ≤ s.final
       → let m = in_link (two_live root last n v w) role old number held n in blocked m (record { service = service; said = said }) ≡ false → Hears m said
@@ -219,10 +235,10 @@ module _ (s : Scheme) (law : Lawful s) (bytes seed : List ℕ) (room sep : ℕ) 
   hears said r (at_sch {held} two lo hi) free = hears_link said r held two lo hi free
 
 -- a frame that was read, or not
-pub did_taken : (s : Scheme) → Lawful s → (bytes seed : List ℕ) (room sep : ℕ) → Bytes bytes × Bytes seed → (r : Reading) → reading bytes ≡ r → {m : Model} → Sound s m → Did s (frame bytes seed room) m (taken s m seed sep (admitted m r))
-did_taken s law bytes seed room sep given (unread number) e S = did_refused s _ no.FrameLength S
-did_taken s law bytes seed room sep given (fault code) e S = does_fail s law _ sep _ S
-did_taken s law bytes seed room sep given (message p) e {m} S =
-    both (blocked m p) (λ a. Did s (frame bytes seed room) m (taken s m seed sep a))
+pub did_taken : (s : Scheme) → Lawful s → (bytes : List ℕ) (beside : Ancillary) (room sep : ℕ) → Bytes bytes × Bytes16 beside.seed → (r : Reading) → reading bytes ≡ r → {m : Model} → Sound s m → Did s (frame bytes beside room) m (taken s m beside sep (admitted m r))
+did_taken s law bytes beside room sep given (unread number) e S = did_refused s _ no.FrameLength S
+did_taken s law bytes beside room sep given (fault code) e S = does_fail s law _ sep _ S
+did_taken s law bytes beside room sep given (message p) e {m} S =
+    both (blocked m p) (λ a. Did s (frame bytes beside room) m (taken s m beside sep a))
     (λ _. did_refused s _ no.DataHeld S)
-    (λ free. hears s law bytes seed room sep given p.service p.said e S free)
+    (λ free. hears s law bytes beside room sep given p.service p.said e S free)

@@ -1,24 +1,25 @@
 -- Every call does one of the things that a call may do.
-use Rattle.std.proofs.Common.{◌≡◌, ℕ, ◌+◌, ◌<◌, ◌≤◌, true, false, not, ◌||◌, eqb, ltb, leb, List, [], ◌∷◌, length, Ok, Err, Result, refl, ap, arith}
+use Rattle.std.proofs.Common.{◌≡◌, ℕ, ◌+◌, ◌<◌, ◌≤◌, true, false, not, ◌||◌, eqb, ltb, leb, List, [], ◌∷◌, length, refl, ap, arith}
 use Rattle.std.proofs.lemmas.Bool.{ne_eqb, ltb-false, leb-false, eqb-true, and_parts, not-false, not-true}
 use Rattle.frame.specs.declared.types.Service.{Service}
+use Rattle.frame.specs.declared.types.Service.TheVariants.{Sch}
+use Rattle.frame.specs.Frames.{enc}
 use Rattle.frame.specs.Reading.{reading}
 use Rattle.suite.specs.declared.types.Role.TheVariants.{Sender}
-use Rattle.suite.specs.declared.types.Denial.{Denial}
 use Rattle.suite.specs.Numbers.{role_byte}
-use Rattle.suite.specs.Meanings.{Bytes, Bytes16}
+use Rattle.suite.specs.declared.types.KeyKind.TheVariants.{LinkKey}
+use Rattle.suite.specs.Meanings.{Bytes, Bytes16, keyring_of}
+use Rattle.suite.proofs.KeyLaws.{value_is}
 use Rattle.suite.specs.Schemes.{Scheme, Lawful, Sealable}
-use Rattle.suite.specs.Calls.{no_room, wrong_seed, sealed, revealed}
+use Rattle.suite.specs.Calls.{no_room, wrong_seed}
 use Rattle.protocol.specs.declared.states.State.TheVariants as st
 use Rattle.protocol.specs.declared.outcomes.Confirmation.TheVariants as conf
 use Rattle.protocol.specs.Numbers.{state_mark, confirmation_number}
-use Rattle.protocol.specs.Models.{Model}
-use Rattle.protocol.specs.Steps.{is_empty, record_length}
-use Rattle.protocol.specs.Calls.{Call, invoke, send, retrieve_data, retrieve_secret, terminate, frame, release, turn, done, in_state, sending, revealing, first_byte}
-use Rattle.histories.specs.Histories.{GivenBytes}
+use Rattle.protocol.specs.Models.{Model, Ancillary}
+use Rattle.protocol.specs.Steps.{said_by, is_empty, record_length, sealed_record}
+use Rattle.protocol.specs.Calls.{Call, GivenBytes, invoke, send, retrieve_data, retrieve_secret, terminate, frame, release, turn, done, in_state, first_byte}
 use Rattle.promises.proofs.Cases.{both, clash}
 use Rattle.promises.proofs.Ledgers.{sends, gives}
-use Rattle.promises.proofs.Payloads.{sealed_is}
 use Rattle.promises.proofs.Sounds.{Sound, at_idle, at_select, at_secret, at_sch, has_link, Did, outside, inside}
 use Rattle.promises.proofs.Turns.{silent, unmoved, not_linked, not_idle, did_refused, did_ended}
 use Rattle.promises.proofs.Messages.{did_taken}
@@ -27,6 +28,10 @@ use Rattle.promises.proofs.Messages.{did_taken}
 not_empty : (xs : List ℕ) → is_empty xs ≡ false → 0 < length xs
 not_empty [] e = absurd (cc)
 not_empty (x ∷ xs) e = omega arith
+
+-- a seed that is not refused
+sixteen : (seed : List ℕ) → wrong_seed seed ≡ false → Bytes seed → Bytes16 seed
+sixteen seed long given = record { long = eqb-true (length seed) 16 (not-false (eqb (length seed) 16) long); bytes = given }
 
 module _ (s : Scheme) where
   -- Idle is left
@@ -43,15 +48,15 @@ module _ (s : Scheme) where
       (λ _. both (wrong_seed seed) (Did s c m) (λ _. did_refused s c _ S)
       (λ long. both (not (in_state m st.Idle)) (Did s c m) (λ _. did_refused s c _ S)
       (λ idle. both (not (eqb pid s.pid)) (Did s c m) (λ _. did_refused s c _ S)
-      (λ _. invoked c service seed _ (record { long = eqb-true (length seed) 16 (not-false (eqb (length seed) 16) long); bytes = given }) S (not-false (in_state m st.Idle) idle)))))
+      (λ _. invoked c service seed _ (sixteen seed long given) S (not-false (in_state m st.Idle) idle)))))
 
   -- in a session a record is sealed
-  did_seal : (plain : List ℕ) (room : ℕ) {m : Model} (r : Result (List ℕ) Denial) → sealed s m.means m.link (role_byte m.role) (m.number + 1) plain 255 ≡ r → Sound s m → has_link m ≡ true → record_length (length plain) ≡ true → Bytes plain → m.number < s.final → Did s (send plain room) m (sending m r)
-  did_seal plain room (Err e) q S up full given below = did_refused s _ _ S
-  did_seal plain room (Ok p) q (at_idle base) up full given below = clash false refl up
-  did_seal plain room (Ok p) q (at_select base h) up full given below = clash false refl up
-  did_seal plain room (Ok p) q (at_secret state k one) up full given below = clash _ (not_linked k) up
-  did_seal plain room {m} (Ok p) q (at_sch {number} two lo hi) up full given below =
+  did_seal : (plain : List ℕ) (room : ℕ) {m : Model} → Sound s m → has_link m ≡ true → record_length (length plain) ≡ true → Bytes plain → m.number < s.final
+      → Did s (send plain room) m (done (record m { number = m.number + 1 }) conf.DataSent (said_by Sch (enc (sealed_record s m (m.number + 1) plain))))
+  did_seal plain room (at_idle base) up full given below = clash false refl up
+  did_seal plain room (at_select base h) up full given below = clash false refl up
+  did_seal plain room (at_secret state k one) up full given below = clash _ (not_linked k) up
+  did_seal plain room {m} (at_sch {number} two lo hi) up full given below =
       let parts = and_parts (not (is_empty plain)) (not (ltb 200 (length plain))) full in
       let some : 0 < length plain = not_empty plain (not-true (is_empty plain) parts.0) in
       let most : length plain ≤ 200 = ltb-false 200 (length plain) (not-true (ltb 200 (length plain)) parts.1) in
@@ -60,7 +65,7 @@ module _ (s : Scheme) where
       let next : number + 1 ≡ (number + 1) + 0 = omega arith in
       let fit : Sealable s (number + 1) plain = record { some = some; most = most; bytes = given; low = low; high = high } in
       inside (at_sch two low high) refl refl refl refl refl (silent refl refl refl) next
-      (λ w f. sends plain refl (ap (λ z. (0x14 ∷ z) ∷ []) (sealed_is s m.means m.link (role_byte m.role) (number + 1) plain 255 w p f q)) refl fit)
+      (λ w f. sends plain refl (ap (λ z. (0x14 ∷ s.seal_of (keyring_of m.means) m.link z (role_byte m.role) (number + 1) plain) ∷ []) (value_is m.means.live LinkKey m.link w f)) refl fit)
 
   did_send : (plain : List ℕ) (room : ℕ) → Bytes plain → {m : Model} → Sound s m → let c = send plain room in Did s c m (turn s m c)
   did_send plain room given {m} S =
@@ -69,7 +74,7 @@ module _ (s : Scheme) where
       (λ _. both (not (has_link m)) (Did s c m) (λ _. did_refused s c _ S)
       (λ up. both (not (record_length (length plain))) (Did s c m) (λ _. did_refused s c _ S)
       (λ full. both (leb s.final m.number) (Did s c m) (λ _. did_refused s c _ S)
-      (λ below. did_seal plain room (sealed s m.means m.link (role_byte m.role) (m.number + 1) plain 255) refl S (not-false (has_link m) up) (not-false (record_length (length plain)) full) given (leb-false s.final m.number below)))))
+      (λ below. did_seal plain room S (not-false (has_link m) up) (not-false (record_length (length plain)) full) given (leb-false s.final m.number below)))))
 
   -- in a session the data held is handed out
   did_give : (room : ℕ) {m : Model} → Sound s m → has_link m ≡ true → is_empty m.held ≡ false → Did s (retrieve_data room) m (done (record m { held = [] }) conf.Nothing m.held)
@@ -86,10 +91,6 @@ module _ (s : Scheme) where
       (λ full. both (ltb room (length m.held)) (Did s c m) (λ _. did_refused s c _ S)
       (λ _. did_give room S (not-false (has_link m) up) full)))
 
-  did_reveal : (room : ℕ) {m : Model} (r : Result (List ℕ) Denial) → Sound s m → has_link m ≡ false → Did s (retrieve_secret room) m (revealing m r)
-  did_reveal room (Err e) S out = did_refused s _ _ S
-  did_reveal room (Ok value) S out = outside S refl out out (silent refl refl refl)
-
   other_state : (m : Model) → in_state m st.ConfirmedSse ≡ true → has_link m ≡ false
   other_state m e = let mark : state_mark m.state ≡ 4 = eqb-true (state_mark m.state) 4 e in ne_eqb (state_mark m.state) 5 (λ x. omega arith)
 
@@ -98,7 +99,7 @@ module _ (s : Scheme) where
       let c = retrieve_secret room in
       both (not (in_state m st.ConfirmedSse)) (Did s c m) (λ _. did_refused s c _ S)
       (λ sse. both (ltb room 16) (Did s c m) (λ _. did_refused s c _ S)
-      (λ _. did_reveal room (revealed m.means m.secret room) S (other_state m (not-false (in_state m st.ConfirmedSse) sse))))
+      (λ _. let out = other_state m (not-false (in_state m st.ConfirmedSse) sse) in outside S refl out out (silent refl refl refl)))
 
   did_terminate : (room : ℕ) {m : Model} → Sound s m → let c = terminate room in Did s c m (turn s m c)
   did_terminate room {m} S =
@@ -110,12 +111,12 @@ module _ (s : Scheme) where
   did_release : {m : Model} → Sound s m → Did s release m (turn s m release)
   did_release {m} S = did_ended s release _ _ _ (both (in_state m st.Idle) (λ k. eqb (confirmation_number k) 1 ≡ false) (λ _. refl) (λ _. refl)) S
 
-  did_frame : Lawful s → (bytes seed : List ℕ) (room : ℕ) → Bytes bytes × Bytes seed → {m : Model} → Sound s m → let c = frame bytes seed room in Did s c m (turn s m c)
-  did_frame law bytes seed room given {m} S =
-      let c = frame bytes seed room in
+  did_frame : Lawful s → (bytes : List ℕ) (beside : Ancillary) (room : ℕ) → Bytes bytes × Bytes beside.seed → {m : Model} → Sound s m → let c = frame bytes beside room in Did s c m (turn s m c)
+  did_frame law bytes beside room given {m} S =
+      let c = frame bytes beside room in
       both (no_room room) (Did s c m) (λ _. did_refused s c _ S)
-      (λ _. both (wrong_seed seed) (Did s c m) (λ _. did_refused s c _ S)
-      (λ _. did_taken s law bytes seed room (first_byte bytes) given (reading bytes) refl S))
+      (λ _. both (wrong_seed beside.seed) (Did s c m) (λ _. did_refused s c _ S)
+      (λ long. did_taken s law bytes beside room (first_byte bytes) (given.0, sixteen beside.seed long given.1) (reading bytes) refl S))
 
 pub did : (s : Scheme) → Lawful s → (c : Call) → GivenBytes c → {m : Model} → Sound s m → Did s c m (turn s m c)
 did s law (invoke service pid seed room) given S = did_invoke s service pid seed room given S
@@ -123,5 +124,5 @@ did s law (send plain room) given S = did_send s plain room given S
 did s law (retrieve_data room) given S = did_data s room S
 did s law (retrieve_secret room) given S = did_secret s room S
 did s law (terminate room) given S = did_terminate s room S
-did s law (frame bytes seed room) given S = did_frame s law bytes seed room given S
+did s law (frame bytes beside room) given S = did_frame s law bytes beside room given S
 did s law release given S = did_release s S

@@ -6,8 +6,8 @@ use Rattle.suite.specs.Meanings.{value_in}
 use Rattle.suite.specs.Schemes.{Scheme, Lawful}
 use Rattle.protocol.specs.declared.states.State.TheVariants.{ConfirmedSch}
 use Rattle.protocol.specs.Models.{Model}
-use Rattle.protocol.specs.Calls.{Turn, Call, turn, in_state}
-use Rattle.histories.specs.Histories.{Entry, History, Fresh, GivenBytes, after, history, entered, made, destroyed, made_in, destroyed_in, started_by, member, Runs, starts, goes_on, Running, sent, taken, sent_in, taken_in}
+use Rattle.protocol.specs.Calls.{Turn, Call, GivenBytes, turn, in_state}
+use Rattle.histories.specs.Histories.{Entry, History, Fresh, after, history, entered, made, destroyed, made_in, destroyed_in, started_by, member, Runs, starts, goes_on, Running, sent, taken, sent_in, taken_in}
 use Rattle.promises.specs.Promises.{serials}
 use Rattle.promises.proofs.Cases.{clash}
 use Rattle.promises.proofs.Books.{Books, no_books, books_made, books_same, books_cleared, Clears}

@@ -5,7 +5,7 @@ use Rattle.frame.specs.declared.types.Service.TheVariants.{Sch}
 use Rattle.suite.specs.declared.types.Role.{Role}
 use Rattle.suite.specs.declared.types.KeyKind.TheVariants.{LinkKey}
 use Rattle.suite.specs.Numbers.{role_byte}
-use Rattle.suite.specs.Meanings.{Meaning, Bytes16, value_in}
+use Rattle.suite.specs.Meanings.{Meaning, keyring_of, Bytes16, value_in}
 use Rattle.suite.specs.Schemes.{Scheme}
 use Rattle.protocol.specs.declared.states.State.{State}
 use Rattle.protocol.specs.declared.states.State.TheVariants.{Idle, Select, ConfirmedSch}
@@ -46,7 +46,7 @@ has_link m = in_state m ConfirmedSch
 
 -- its end of the link session
 abbrev pub end_of : Model → End
-end_of m = record { root = m.means.root; serial = m.link; role = role_byte m.role }
+end_of m = record { keyring = keyring_of m.means; serial = m.link; role = role_byte m.role }
 
 -- an answer that reports no key and starts no session
 pub record Silent (a : Result Outcome Refusal) : Type 0 where

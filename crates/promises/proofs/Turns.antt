@@ -29,7 +29,7 @@ none_handed r (send plain room) = refl
 none_handed r (retrieve_data room) = refl
 none_handed r (retrieve_secret room) = refl
 none_handed r (terminate room) = refl
-none_handed r (frame bytes seed room) = refl
+none_handed r (frame bytes beside room) = refl
 none_handed r release = refl
 
 pub did_refused : (s : Scheme) (c : Call) (r : Refusal) {m : Model} → Sound s m → Did s c m (refused m r)

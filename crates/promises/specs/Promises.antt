@@ -1,21 +1,20 @@
 -- What every run of calls keeps, and what two link sessions under equal link keys keep.
-use Rattle.std.specs.Prelude.{◌≡◌, ◌≢◌, ℕ, ◌+◌, ◌≤◌, ◌⊎◌, Bool, true, false, List, [], ◌∷◌, ◌++◌, map, length, Some, Err, Result}
+use Rattle.std.specs.Prelude.{◌≡◌, ◌≢◌, ℕ, ◌+◌, ◌≤◌, ◌⊎◌, true, false, List, [], ◌∷◌, ◌++◌, map, length, Some, Err, Result}
 use Rattle.std.specs.List.{AllByRecursion}
 use Rattle.suite.specs.declared.types.Role.{Role}
 use Rattle.suite.specs.declared.types.KeyKind.TheVariants.{SharedSecret, LinkKey}
 use Rattle.suite.specs.declared.types.Denial.{Denial}
 use Rattle.suite.specs.declared.types.Denial.TheVariants.{Unfit, Unknown}
 use Rattle.suite.specs.Numbers.{role_byte}
-use Rattle.suite.specs.Meanings.{Meaning, Bytes, Bytes16, WellFormed, value_in}
+use Rattle.suite.specs.Meanings.{Meaning, Keyring, Formed, Bytes, Bytes16, WellFormed, value_in}
 use Rattle.suite.specs.Schemes.{Scheme, Lawful, OneKind}
 use Rattle.suite.specs.Calls.{adding, offered, agreed, derived, checked, revealed, sealed, opened, destroy_answer}
-use Rattle.protocol.specs.declared.states.State.{State}
-use Rattle.protocol.specs.declared.states.State.TheVariants.{Idle, Select, EstablishedSender, EstablishedRecipient, ConfirmedSse, ConfirmedSch}
-use Rattle.protocol.specs.Models.{Model, without_key}
-use Rattle.protocol.specs.Calls.{Call}
-use Rattle.histories.specs.Histories.{History, Fresh, GivenBytes, after, history, made, destroyed, less, Distinct, Runs, Running, sent, taken, handing, handed}
+use Rattle.protocol.specs.declared.states.State.TheVariants.{Idle, Select, ConfirmedSch}
+use Rattle.protocol.specs.Models.{Model, KeysLive, has_secret, without_key}
+use Rattle.protocol.specs.Calls.{Call, GivenBytes}
+use Rattle.histories.specs.Histories.{History, Fresh, after, history, made, destroyed, less, Distinct, Runs, Running, sent, taken, handing, handed}
 use Rattle.histories.specs.Records.{link_in, Over, Session, Way, was_sent, was_handed, charges, those}
-use Rattle.histories.specs.Sessions.{encs, numbers, OnlyCopies, Part, Begins, LinkSession, NoneTwice}
+use Rattle.histories.specs.Sessions.{encs, numbers, OnlyCopies, Part, Begins, LinkSession, keyring_at, NoneTwice}
 
 -- Keys.
 
@@ -84,18 +83,11 @@ pub record ServesAsLink (s : Scheme) (means : Meaning) (key : ℕ) : Type 0 wher
   pub seal : (role : Role) (n : ℕ) (plain : List ℕ) (room : ℕ) → length plain ≤ 200 → n ≤ s.final → 255 ≤ room → WellAsked (sealed s means key (role_byte role) n plain room)
   pub unseal : (payload : List ℕ) (room : ℕ) → length payload ≤ 254 → 255 ≤ room → WellAsked (opened s means key payload room)
 
--- the states from the agreement on
-abbrev pub has_secret : State → Bool
-has_secret Idle = false
-has_secret Select = false
-has_secret EstablishedSender = true
-has_secret EstablishedRecipient = true
-has_secret ConfirmedSse = true
-has_secret ConfirmedSch = true
-
--- whatever a call asks of the suite, in the state that the entity is in, is not denied as unfit or unknown
+-- Whatever a call asks of the suite, in the state that the entity is in, is not denied as unfit or unknown. What a call does is defined without
+-- denials, by the values of live keys: it is with these that the suite answers.
 pub record AsksWell (s : Scheme) (m : Model) : Type 0 where
   pub formed : WellFormed m.means
+  pub live : KeysLive m
   -- invoke and ACT_REQ ask for an offer, ACT_REQ and ACT_RES for an agreement; ACT_RES brings no seed, so one is kept
   pub offer : (seed : List ℕ) (room : ℕ) → length seed ≡ 16 → 255 ≤ room → WellAsked (offered s m.means seed room)
   pub agreement : (seed offer : List ℕ) (role : Role) → length seed ≡ 16 → WellAsked (agreed s m.means seed offer (role_byte role))
@@ -133,7 +125,7 @@ EverySession = (s : Scheme) → Lawful s → (m : Model) → Fresh m → (calls 
 -- what is asked of the two kinds of suite: the same first number, and payloads that open to the same
 pub record OpensAlike (s t : Scheme) : Type 0 where
   pub firsts : s.first ≡ t.first
-  pub opens : (root value payload : List ℕ) (serial : ℕ) → Bytes16 root → Bytes16 value → Bytes payload → s.open_of root serial value payload ≡ t.open_of root serial value payload
+  pub opens : (k : Keyring) (value payload : List ℕ) (serial : ℕ) → Formed k → Bytes16 value → Bytes payload → s.open_of k serial value payload ≡ t.open_of k serial value payload
 
 -- so it is with suites of one kind
 abbrev pub KindsOpenAlike : Type 0
@@ -156,9 +148,9 @@ abbrev pub Ordered : Type 0
 Ordered = (s t : Scheme) → Lawful s → Lawful t → OpensAlike s t →
     (m m' : Model) → Fresh m → Fresh m' →
     (calls calls' : List Call) → AllByRecursion GivenBytes calls → AllByRecursion GivenBytes calls' →
-    (value : List ℕ) (n n' : ℕ) (mine theirs : History) → LinkSession s m calls n value mine → LinkSession t m' calls' n' value theirs →
+    (value : List ℕ) (n n' : ℕ) (mine theirs : History) (one : LinkSession s m calls n value mine) (other : LinkSession t m' calls' n' value theirs) →
     OnlyCopies (encs mine ++ encs theirs) mine →
-    Follows (handed mine) (sent theirs) (numbers s m.means.root n value (encs mine)) (numbers t m'.means.root n' value (encs theirs))
+    Follows (handed mine) (sent theirs) (numbers s (keyring_at one) n value (encs mine)) (numbers t (keyring_at other) n' value (encs theirs))
 
 -- all of it together
 pub record Promises : Type 0 where
