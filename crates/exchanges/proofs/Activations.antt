@@ -14,11 +14,12 @@ use Rattle.protocol.specs.declared.outcomes.Confirmation.TheVariants as conf
 use Rattle.protocol.specs.Models.{Model, fresh, no_seed}
 use Rattle.protocol.specs.Steps.{said_by}
 use Rattle.protocol.specs.Calls.{Call, invoke, frame, Turn, turn}
-use Rattle.histories.specs.Histories.{Entry, History, GivenBytes, entered, answers}
-use Rattle.exchanges.specs.Duos.{End, Duo, begun, last_written, Meeting, asks, replies, checks, verifies, completes, activated}
-use Rattle.exchanges.specs.Exchanges.{SerialFree, KindsSerialFree, NewIsFresh, Ready, opposite, InLink, Matched, Linked, LinkSucceeds, Shared, SecretSucceeds, IsRun, SomeReady}
+use Rattle.histories.specs.Histories.{Entry, History, GivenBytes, entered, starts, confirms, answers, sent, handed}
+use Rattle.exchanges.specs.Duos.{End, Duo, begun, last_answer, last_written, Meeting, asks, replies, checks, verifies, completes, activated}
+use Rattle.exchanges.specs.Exchanges.{SerialFree, KindsSerialFree, NewIsFresh, Ready, opposite, InLink, Matched, LinkSucceeds, Shared, SecretSucceeds, IsRun, SomeReady}
 use Rattle.exchanges.proofs.Shapes.{bare, Base, base_of, linked_in, one_gone, both_gone, selecting, sharing, linking, Clears}
 use Rattle.exchanges.proofs.Turns.{stepped, ask_is, reply_is, check_is, confirm_sse, confirm_sch, complete_sse, complete_sch, tell_is}
+use Rattle.exchanges.proofs.Joints.{Joint, new_joint, joined}
 use Rattle.exchanges.proofs.Records.{run_called}
 
 -- An activation, by what each of its five calls does.
@@ -57,7 +58,12 @@ Given h = AllByRecursion (λ e. GivenBytes e.call) h
 
 -- two entities at the start of a link
 pub record Started (s : Scheme) (d : Duo) : Type 0 where
-  pub linked : Linked s d
+  pub mine : confirms 1 (last_answer d.one.past) ≡ true
+  pub theirs : confirms 1 (last_answer d.other.past) ≡ true
+  pub matched : Matched s.first d
+  pub joint : Joint d
+  pub none_sent : (sent d.one.past ≡ []) × (sent d.other.past ≡ [])
+  pub none_handed : (handed d.one.past ≡ []) × (handed d.other.past ≡ [])
   pub mine_given : Given d.one.past
   pub their_given : Given d.other.past
   pub mine_clear : Clears d.one.model
@@ -236,13 +242,12 @@ module _ (s : Scheme) (law : Lawful s) (free : SerialFree s) (root : List ℕ) (
       five s Sch meeting (Started s) (turn1 Sch) (turn2 Sch) (turn3 Sch) turn4_sch turn5_sch
       (first Sch) (second Sch (omega arith)) (third Sch (omega arith)) (fourth_sch h') (fifth_sch h)
       (record {
-        linked = record {
-          mine = refl;
-          theirs = refl;
-          matched = linked h h' _ refl refl;
-          none_sent = (refl, refl);
-          none_handed = (refl, refl);
-        };
+        mine = refl;
+        theirs = refl;
+        matched = linked h h' _ refl refl;
+        joint = new_joint (linked h h' _ refl refl) (starts (omega arith) refl) (starts (omega arith) refl);
+        none_sent = (refl, refl);
+        none_handed = (refl, refl);
         mine_given = (((lit< tt, replied_bytes), spare_is.bytes), (((lit< tt, their_offer), spare_is.bytes), (seed_is.bytes, tt)));
         their_given = (((lit< tt, asked_bytes), spare_is.bytes), (((lit< tt, (law.pid_byte, mine_offer)), answering_is.bytes), tt));
         mine_clear = both_gone root last (n + 1) value mine_link (omega arith);
@@ -306,9 +311,6 @@ link_starts s law free x r =
     (link_up s law free x.mine.root x.mine.last x.theirs.last x.mine.newest x.theirs.newest x.room x.seed x.answering x.spare
     r.seed_is r.answering_is r.spare_is r.enough (base_of r.mine_formed) (their_base r) r.mine_left r.theirs_left)
 
-pub link_succeeds : LinkSucceeds
-link_succeeds s law free x r = (link_starts s law free x r).linked
-
 pub secret_told : (s : Scheme) → Lawful s → SerialFree s → (x : Meeting) → Ready Sse x → (room : ℕ) → 16 ≤ room
     → Told s room (activated s Sse x)
 secret_told s law free x r more big =
@@ -337,6 +339,18 @@ theirs_activated s x start =
     run_called s x.theirs (frame (last_written (checks s Sch x).past) x.spare x.room) start.their_given.0
     (run_called s x.theirs (frame (last_written (asks s Sch x).past) x.answering x.room) start.their_given.1.0
     (new_run s x.theirs))
+
+pub link_succeeds : LinkSucceeds
+link_succeeds s law free x r =
+    let start = link_starts s law free x r in
+    record {
+      mine = start.mine;
+      theirs = start.theirs;
+      matched = start.matched;
+      joined = joined (mine_activated s x start) (theirs_activated s x start) start.joint;
+      none_sent = start.none_sent;
+      none_handed = start.none_handed;
+    }
 
 -- The premises.
 

@@ -14,6 +14,7 @@ use Rattle.exchanges.specs.Duos.{Duo, Meeting, turned, activated, Line, talked, 
 use Rattle.exchanges.specs.Exchanges.{Ready, Confirmed, AllFit, TalkSucceeds, Parted, PartingSucceeds, NoneLeft, EndsWell, LinkEnds, SecretEnds}
 use Rattle.exchanges.proofs.Shapes.{Clears}
 use Rattle.exchanges.proofs.Turns.{part_is, parted_is}
+use Rattle.exchanges.proofs.Joints.{joined}
 use Rattle.exchanges.proofs.Records.{SameKeys, Goes, talk_goes}
 use Rattle.exchanges.proofs.Activations.{Started, link_starts, secret_told, mine_activated, theirs_activated}
 
@@ -24,20 +25,18 @@ talk_of_new : (s : Scheme) → Lawful s → (x : Meeting) → Ready Sch x → St
     → s.first + length talk ≤ s.final → Goes s (s.first + length talk) (activated s Sch x) talk (talked s x (activated s Sch x) talk)
 talk_of_new s law x r start talk fit most =
     let low : s.first ≤ s.first = omega arith in
-    talk_goes s law x r.spare_is r.enough s.first (activated s Sch x) low start.linked.matched talk fit most
+    talk_goes s law x r.spare_is r.enough s.first (activated s Sch x) low start.matched talk fit most
 
 pub talk_succeeds : TalkSucceeds
 talk_succeeds s law free x r talk fit most =
     let start = link_starts s law free x r in
-    let none = start.linked in
     let g = talk_of_new s law x r start talk fit most in
     record {
-      sent_here = g.over.sent_here ∙ ap (λ z. z ++ said_here talk) none.none_sent.0;
-      handed_there = g.over.handed_there ∙ ap (λ z. z ++ said_here talk) none.none_handed.1;
-      sent_there = g.over.sent_there ∙ ap (λ z. z ++ said_there talk) none.none_sent.1;
-      handed_here = g.over.handed_here ∙ ap (λ z. z ++ said_there talk) none.none_handed.0;
-      mine_run = g.mine_run x.mine (mine_activated s x start);
-      theirs_run = g.their_run x.theirs (theirs_activated s x start);
+      sent_here = g.over.sent_here ∙ ap (λ z. z ++ said_here talk) start.none_sent.0;
+      handed_there = g.over.handed_there ∙ ap (λ z. z ++ said_here talk) start.none_handed.1;
+      sent_there = g.over.sent_there ∙ ap (λ z. z ++ said_there talk) start.none_sent.1;
+      handed_here = g.over.handed_here ∙ ap (λ z. z ++ said_there talk) start.none_handed.0;
+      joined = joined (g.mine_run x.mine (mine_activated s x start)) (g.their_run x.theirs (theirs_activated s x start)) (g.joint start.joint);
     }
 
 -- The end.

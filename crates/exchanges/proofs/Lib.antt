@@ -1,5 +1,6 @@
 pub mod Shapes
 pub mod Turns
+pub mod Joints
 pub mod Records
 pub mod Activations
 pub mod Ends

@@ -1,5 +1,5 @@
 -- A record that is sent in one of two matched link sessions is handed out in the other.
-use Rattle.std.proofs.Common.{◌≡◌, ℕ, ◌+◌, ◌<◌, ◌≤◌, true, false, eqb, List, [], ◌∷◌, ◌++◌, length, Some, sym, refl, ap, ◌∙◌, subst, append_assoc, append-nil, arith, lit<}
+use Rattle.std.proofs.Common.{◌≡◌, ℕ, ◌+◌, ◌<◌, ◌≤◌, true, false, eqb, List, [], ◌∷◌, ◌++◌, length, Some, sym, refl, ap, ◌∙◌, subst, inl, append_assoc, append-nil, arith, lit<}
 use Rattle.frame.specs.declared.types.Service.TheVariants.{Sch}
 use Rattle.frame.specs.Frames.{enc}
 use Rattle.suite.specs.declared.types.Role.{Role}
@@ -12,11 +12,13 @@ use Rattle.protocol.specs.declared.outcomes.Confirmation.TheVariants as conf
 use Rattle.protocol.specs.Models.{Model, fresh}
 use Rattle.protocol.specs.Steps.{said_by}
 use Rattle.protocol.specs.Calls.{Call, send, retrieve_data, frame, Turn, turn}
-use Rattle.histories.specs.Histories.{History, GivenBytes, entered, after, confirms, answers, sent, handed}
+use Rattle.histories.specs.Histories.{History, GivenBytes, entered, after, goes_on, confirms, answers, sent, handed}
+use Rattle.histories.specs.Sessions.{encs, In}
 use Rattle.exchanges.specs.Duos.{End, Duo, called, last_answer, last_written, Meeting, Line, here, there, turned, passed, talked, said_here, said_there}
 use Rattle.exchanges.specs.Exchanges.{opposite, InLink, Matched, Fit, AllFit, HandedOver, RecordsPass, RecordPasses, IsRun}
 use Rattle.exchanges.proofs.Shapes.{value_is}
 use Rattle.exchanges.proofs.Turns.{stepped, role_ok, send_is, hear_is, data_is}
+use Rattle.exchanges.proofs.Joints.{Among, in_back, among_more, among_both, only_more, Joint, turn_joint}
 
 -- an entity over the same suite that names the same keys
 pub record SameKeys (m m' : Model) : Type 0 where
@@ -54,6 +56,7 @@ record Passed (number : ℕ) (d : Duo) (plain : List ℕ) (e : Duo) : Type 0 whe
   available : confirms 3 (last_answer (earlier e.other.past)) ≡ true
   retrieved : answers (last_answer e.other.past) ≡ true
   exactly : last_written e.other.past ≡ plain
+  joint : Joint d → Joint e
   bytes : Bytes (last_written e.one.past)
   mine_keys : SameKeys d.one.model e.one.model
   their_keys : SameKeys d.other.model e.other.model
@@ -148,6 +151,34 @@ module _ (s : Scheme) (law : Lawful s) (x : Meeting) (spare : Bytes16 x.spare) (
     other = record { model = c.model; past = entered (retrieve_data x.room) c ∷ entered (frame a.reply x.spare x.room) b ∷ d.other.past };
   }
 
+  -- two joint sessions stay so: the frame that came is the one that was sent
+  joint_by : Joint d → Joint (after_calls sends takes gives)
+  joint_by j =
+      let mine = j.mine in
+      let theirs = j.theirs in
+      let said = encs mine.since in
+      let heard = encs theirs.since in
+      let said' = said ++ (sends.reply ∷ []) in
+      let heard' = heard ++ [] ++ [] in
+      let more : Among said said' = among_more said (sends.reply ∷ []) in
+      let same : Among heard heard' = λ z h. among_more (heard ++ []) [] z (among_more heard [] z h) in
+      let copy : In sends.reply (heard' ++ said') = in_back sends.reply heard' said' (in_back sends.reply said (sends.reply ∷ []) (inl refl)) in
+      record {
+        value = j.value;
+        mine = record { serial = mine.serial; since = entered (send plain x.room) sends ∷ mine.since; runs = goes_on mine.runs refl; key = mine.key };
+        theirs = record {
+          serial = theirs.serial;
+          since = entered (retrieve_data x.room) gives ∷ entered (frame sends.reply x.spare x.room) takes ∷ theirs.since;
+          runs = goes_on (goes_on theirs.runs refl) refl;
+          key = theirs.key;
+        };
+        mine_copies = (tt, only_more (said ++ heard) (said' ++ heard') (among_both said heard said' heard' more same) mine.since j.mine_copies);
+        their_copies = (
+          tt,
+          ((λ _. copy), only_more (heard ++ said) (heard' ++ said') (among_both heard said heard' said' same more) theirs.since j.their_copies),
+        );
+      }
+
   passed_by : Passed number d plain (after_calls sends takes gives)
   passed_by = record {
     matched = record {
@@ -168,6 +199,7 @@ module _ (s : Scheme) (law : Lawful s) (x : Meeting) (spare : Bytes16 x.spare) (
     available = refl;
     retrieved = refl;
     exactly = refl;
+    joint = joint_by;
     bytes = (lit< tt, sealed_bytes);
     mine_keys = record { means = refl; secret = refl; link = refl };
     their_keys = record { means = refl; secret = refl; link = refl };
@@ -191,6 +223,7 @@ pub record Goes (s : Scheme) (k : ℕ) (d : Duo) (talk : List Line) (e : Duo) : 
   pub over : HandedOver d e talk
   pub mine_keys : SameKeys d.one.model e.one.model
   pub their_keys : SameKeys d.other.model e.other.model
+  pub joint : Joint d → Joint e
   pub mine_run : (means : Meaning) → IsRun s means d.one → IsRun s means e.one
   pub their_run : (means : Meaning) → IsRun s means d.other → IsRun s means e.other
 
@@ -222,6 +255,7 @@ turn_goes {k} plain {e} g = record {
   };
   mine_keys = g.their_keys;
   their_keys = g.mine_keys;
+  joint = λ j. turn_joint (g.joint (turn_joint j));
   mine_run = g.their_run;
   their_run = g.mine_run;
 }
@@ -262,6 +296,7 @@ joined r later {d} g h = record {
   };
   mine_keys = same_after g.mine_keys h.mine_keys;
   their_keys = same_after g.their_keys h.their_keys;
+  joint = λ j. h.joint (g.joint j);
   mine_run = λ means r. h.mine_run means (g.mine_run means r);
   their_run = λ means r. h.their_run means (g.their_run means r);
 }
@@ -278,6 +313,7 @@ none_said s number d M = record {
   };
   mine_keys = record { means = refl; secret = refl; link = refl };
   their_keys = record { means = refl; secret = refl; link = refl };
+  joint = λ j. j;
   mine_run = λ means r. r;
   their_run = λ means r. r;
 }
@@ -298,6 +334,7 @@ module _ (s : Scheme) (law : Lawful s) (x : Meeting) (spare : Bytes16 x.spare) (
         over = p.over;
         mine_keys = p.mine_keys;
         their_keys = p.their_keys;
+        joint = p.joint;
         mine_run = λ means r. run_called s means (send plain x.room) fit.bytes r;
         their_run = λ means r. run_called s means (retrieve_data x.room) tt (run_called s means heard (p.bytes, spare.bytes) r);
       }

@@ -13,7 +13,8 @@ use Rattle.protocol.specs.declared.states.State.{State}
 use Rattle.protocol.specs.declared.states.State.TheVariants.{Idle, ConfirmedSse, ConfirmedSch}
 use Rattle.protocol.specs.Models.{Model, fresh}
 use Rattle.protocol.specs.Calls.{Call, send, retrieve_secret, turn}
-use Rattle.histories.specs.Histories.{Fresh, GivenBytes, after, history, confirms, answers, sent, handed}
+use Rattle.histories.specs.Histories.{History, Fresh, GivenBytes, after, history, confirms, answers, sent, handed}
+use Rattle.histories.specs.Sessions.{encs, OnlyCopies, InSession}
 use Rattle.exchanges.specs.Duos.{End, Duo, called, last_answer, last_written, Meeting, hears, activated, Line, here, there, turned, passed, talked, said_here, said_there, parted}
 
 -- What is asked of a kind of suite beyond its laws: check values and link keys depend on no serial. Two peers may have given their keys
@@ -82,17 +83,41 @@ pub record Matched (number : ℕ) (d : Duo) : Type 0 where
   pub mine_at : d.one.model.number ≡ number
   pub theirs_at : d.other.model.number ≡ number
 
--- both in Confirmed_SCH with confirmation 1, matched at the first number, and no record was sent or handed out yet
-pub record Linked (s : Scheme) (d : Duo) : Type 0 where
+-- the end is that of a new entity over the suite after some calls given bytes, with their history
+pub record IsRun (s : Scheme) (means : Meaning) (e : End) : Type 0 where
+  pub calls : List Call
+  pub bytes : AllByRecursion GivenBytes calls
+  pub model : e.model ≡ after s (fresh means) calls
+  pub past : e.past ≡ history s (fresh means) calls
+
+-- and in this run a link session runs, whose link key has this value
+pub record LinkRun (s : Scheme) (means : Meaning) (value : List ℕ) (e : End) : Type 0 where
+  pub run : IsRun s means e
+  pub serial : ℕ
+  pub since : History
+  pub session : InSession s (fresh means) run.calls serial value since
+
+-- The two ends are in link sessions with one value of the two link keys, and neither got an ENC but copies of those sent in the two: what is
+-- promised of such sessions holds of these, both ways.
+pub record Joined (s : Scheme) (x : Meeting) (d : Duo) : Type 0 where
+  pub value : List ℕ
+  pub mine : LinkRun s x.mine value d.one
+  pub theirs : LinkRun s x.theirs value d.other
+  pub mine_copies : OnlyCopies (encs mine.since ++ encs theirs.since) mine.since
+  pub their_copies : OnlyCopies (encs theirs.since ++ encs mine.since) theirs.since
+
+-- both in Confirmed_SCH with confirmation 1, matched at the first number and joined, and no record was sent or handed out yet
+pub record Linked (s : Scheme) (x : Meeting) (d : Duo) : Type 0 where
   pub mine : confirms 1 (last_answer d.one.past) ≡ true
   pub theirs : confirms 1 (last_answer d.other.past) ≡ true
   pub matched : Matched s.first d
+  pub joined : Joined s x d
   pub none_sent : (sent d.one.past ≡ []) × (sent d.other.past ≡ [])
   pub none_handed : (handed d.one.past ≡ []) × (handed d.other.past ≡ [])
 
 -- any two entities that are ready are linked
 abbrev pub LinkSucceeds : Type 0
-LinkSucceeds = (s : Scheme) → Lawful s → SerialFree s → (x : Meeting) → Ready Sch x → Linked s (activated s Sch x)
+LinkSucceeds = (s : Scheme) → Lawful s → SerialFree s → (x : Meeting) → Ready Sch x → Linked s x (activated s Sch x)
 
 -- both in Confirmed_SSE with confirmation 1, and both users retrieve the same sixteen bytes
 pub record Shared (s : Scheme) (d : Duo) (room : ℕ) : Type 0 where
@@ -150,21 +175,13 @@ RecordsPass = (s : Scheme) → Lawful s → (x : Meeting) → Bytes16 x.spare �
     (number : ℕ) (d : Duo) → s.first ≤ number → Matched number d → (talk : List Line) → AllFit talk → number + length talk ≤ s.final →
     Matched (number + length talk) (talked s x d talk) × HandedOver d (talked s x d talk) talk
 
--- the end is that of a new entity over the suite after some calls given bytes, with their history
-pub record IsRun (s : Scheme) (means : Meaning) (e : End) : Type 0 where
-  pub calls : List Call
-  pub bytes : AllByRecursion GivenBytes calls
-  pub model : e.model ≡ after s (fresh means) calls
-  pub past : e.past ≡ history s (fresh means) calls
-
--- what two users get whose new entities are linked: all that was sent, and nothing else
+-- what two users get whose new entities are linked: all that was sent, and nothing else; the two stay joined
 pub record AllArrives (s : Scheme) (x : Meeting) (d : Duo) (talk : List Line) : Type 0 where
   pub sent_here : sent d.one.past ≡ said_here talk
   pub handed_there : handed d.other.past ≡ said_here talk
   pub sent_there : sent d.other.past ≡ said_there talk
   pub handed_here : handed d.one.past ≡ said_there talk
-  pub mine_run : IsRun s x.mine d.one
-  pub theirs_run : IsRun s x.theirs d.other
+  pub joined : Joined s x d
 
 -- so it is with any talk of two entities that were ready
 abbrev pub TalkSucceeds : Type 0

@@ -1,0 +1,108 @@
+-- Two link sessions with equal link keys, to which no ENC came but copies.
+use Rattle.std.proofs.Common.{◌≡◌, ℕ, ◌⊎◌, List, [], ◌∷◌, ◌++◌, Some, sym, ap, ◌∙◌, subst, inl, inr}
+use Rattle.suite.specs.declared.types.KeyKind.TheVariants.{LinkKey}
+use Rattle.suite.specs.Meanings.{Meaning, value_in}
+use Rattle.suite.specs.Schemes.{Scheme}
+use Rattle.protocol.specs.Calls.{Call, invoke, send, retrieve_data, retrieve_secret, terminate, frame, release}
+use Rattle.histories.specs.Histories.{History, Runs}
+use Rattle.histories.specs.Sessions.{encs, In, CopyOf, CopyIn, OnlyCopies}
+use Rattle.exchanges.specs.Duos.{End, Duo, Meeting, turned}
+use Rattle.exchanges.specs.Exchanges.{Matched, IsRun, LinkRun, Joined}
+
+-- Copies.
+
+-- each frame of the first list is in the second
+abbrev pub Among : List (List ℕ) → List (List ℕ) → Type 0
+Among a b = (x : List ℕ) → In x a → In x b
+
+in_front : (x : List ℕ) (a b : List (List ℕ)) → In x a → In x (a ++ b)
+in_front x [] b h = absurd h
+in_front x (y ∷ a) b h = elim h [ inl e ↦ inl e | inr k ↦ inr (in_front x a b k) ]
+
+pub in_back : (x : List ℕ) (a b : List (List ℕ)) → In x b → In x (a ++ b)
+in_back x [] b h = h
+in_back x (y ∷ a) b h = inr (in_back x a b h)
+
+in_either : (x : List ℕ) (a b : List (List ℕ)) → In x (a ++ b) → In x a ⊎ In x b
+in_either x [] b h = inr h
+in_either x (y ∷ a) b h = elim h [ inl e ↦ inl (inl e) | inr k ↦ elim (in_either x a b k) [ inl i ↦ inl (inr i) | inr i ↦ inr i ] ]
+
+-- a list with more behind it
+pub among_more : (a b : List (List ℕ)) → Among a (a ++ b)
+among_more a b x h = in_front x a b h
+
+-- two lists, one behind the other
+pub among_both : (a b c d : List (List ℕ)) → Among a c → Among b d → Among (a ++ b) (c ++ d)
+among_both a b c d f g x h = elim (in_either x a b h) [ inl i ↦ in_front x c d (f x i) | inr i ↦ in_back x c d (g x i) ]
+
+-- copies of these are copies of more
+module _ (a b : List (List ℕ)) (more : Among a b) where
+  copy_more : (bytes : List ℕ) → CopyOf a bytes → CopyOf b bytes
+  copy_more [] h = tt
+  copy_more (y ∷ rest) h = λ e. more (y ∷ rest) (h e)
+
+  call_more : (c : Call) → CopyIn a c → CopyIn b c
+  call_more (invoke service pid seed room) h = tt
+  call_more (send plain room) h = tt
+  call_more (retrieve_data room) h = tt
+  call_more (retrieve_secret room) h = tt
+  call_more (terminate room) h = tt
+  call_more (frame bytes seed room) h = copy_more bytes h
+  call_more release h = tt
+
+  pub only_more : (h : History) → OnlyCopies a h → OnlyCopies b h
+  only_more [] o = tt
+  only_more (e ∷ h) o = (call_more e.call o.0, only_more h o.1)
+
+-- The two sessions.
+
+-- at an end a link session runs, whose link key has this value
+pub record Running (value : List ℕ) (e : End) : Type 0 where
+  pub serial : ℕ
+  pub since : History
+  pub runs : Runs serial e.past since
+  pub key : value_in e.model.means.live LinkKey serial ≡ Some value
+
+-- so at both ends, and no ENC came but copies
+pub record Joint (d : Duo) : Type 0 where
+  pub value : List ℕ
+  pub mine : Running value d.one
+  pub theirs : Running value d.other
+  pub mine_copies : OnlyCopies (encs mine.since ++ encs theirs.since) mine.since
+  pub their_copies : OnlyCopies (encs theirs.since ++ encs mine.since) theirs.since
+
+-- two matched sessions that have just started
+pub new_joint : {number : ℕ} {d : Duo} → Matched number d → Runs d.one.model.link d.one.past [] → Runs d.other.model.link d.other.past [] → Joint d
+new_joint {d} M r r' = record {
+  value = M.value;
+  mine = record { serial = d.one.model.link; since = []; runs = r; key = M.mine.key };
+  theirs = record { serial = d.other.model.link; since = []; runs = r'; key = M.theirs.key };
+  mine_copies = tt;
+  their_copies = tt;
+}
+
+-- with the two exchanged
+pub turn_joint : {d : Duo} → Joint d → Joint (turned d)
+turn_joint j = record { value = j.value; mine = j.theirs; theirs = j.mine; mine_copies = j.their_copies; their_copies = j.mine_copies }
+
+-- of an end that comes of a run, the session is one of that run
+link_run : {s : Scheme} {means : Meaning} {value : List ℕ} {e : End} → IsRun s means e → Running value e → LinkRun s means value e
+link_run r x = record {
+  run = r;
+  serial = x.serial;
+  since = x.since;
+  session = record {
+    runs = subst (λ h. Runs x.serial h x.since) r.past x.runs;
+    key = sym (ap (λ m. value_in m.means.live LinkKey x.serial) r.model) ∙ x.key;
+  };
+}
+
+pub joined : {s : Scheme} {x : Meeting} {d : Duo} → IsRun s x.mine d.one → IsRun s x.theirs d.other → Joint d → Joined s x d
+unfolding link_run
+joined r r' j = record {
+  value = j.value;
+  mine = link_run r j.mine;
+  theirs = link_run r' j.theirs;
+  mine_copies = j.mine_copies;
+  their_copies = j.their_copies;
+}
