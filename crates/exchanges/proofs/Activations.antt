@@ -6,18 +6,18 @@ use Rattle.frame.specs.declared.types.Service.{Service}
 use Rattle.frame.specs.declared.types.Service.TheVariants.{Sse, Sch}
 use Rattle.frame.specs.Frames.{Said, fields, act_req, act_res, vfy_req, vfy_res}
 use Rattle.suite.specs.declared.types.Role.TheVariants.{Sender, Recipient}
-use Rattle.suite.specs.Meanings.{Meaning, Bytes16, WellFormed}
-use Rattle.suite.specs.Schemes.{Scheme, Lawful, ok_role}
+use Rattle.suite.specs.Meanings.{Meaning, Keyring, keyring_of, Bytes, Bytes16, WellFormed}
+use Rattle.suite.specs.Schemes.{Scheme, Under, Lawful, ok_role}
 use Rattle.protocol.specs.declared.states.State.{State}
 use Rattle.protocol.specs.declared.states.State.TheVariants.{EstablishedSender, EstablishedRecipient, ConfirmedSse}
 use Rattle.protocol.specs.declared.outcomes.Confirmation.TheVariants as conf
-use Rattle.protocol.specs.Models.{Model, fresh, no_seed}
+use Rattle.protocol.specs.Models.{Model, Ancillary, fresh, no_seed}
 use Rattle.protocol.specs.Steps.{said_by}
-use Rattle.protocol.specs.Calls.{Call, invoke, frame, Turn, turn}
-use Rattle.histories.specs.Histories.{Entry, History, GivenBytes, entered, starts, confirms, answers, sent, handed}
+use Rattle.protocol.specs.Calls.{Call, GivenBytes, invoke, frame, Turn, turn}
+use Rattle.histories.specs.Histories.{Entry, History, entered, starts, confirms, answers, sent, handed}
 use Rattle.exchanges.specs.Duos.{End, Duo, begun, last_answer, last_written, Meeting, asks, replies, checks, verifies, completes, activated}
-use Rattle.exchanges.specs.Exchanges.{SerialFree, KindsSerialFree, NewIsFresh, Ready, opposite, InLink, Matched, LinkSucceeds, Shared, SecretSucceeds, IsRun, SomeReady}
-use Rattle.exchanges.proofs.Shapes.{bare, Base, base_of, linked_in, one_gone, both_gone, selecting, sharing, linking, Clears}
+use Rattle.exchanges.specs.Exchanges.{OfRootAndValue, KindsOfRootAndValue, NewIsFresh, Ready, opposite, InLink, Matched, LinkSucceeds, Shared, SecretSucceeds, IsRun, SomeReady}
+use Rattle.exchanges.proofs.Shapes.{bare, agreed_suite, Base, base_of, bare_under, agreed_under, linked_in, one_gone, both_gone, selecting, sharing, linking, Clears}
 use Rattle.exchanges.proofs.Turns.{stepped, ask_is, reply_is, check_is, confirm_sse, confirm_sch, complete_sse, complete_sch, tell_is}
 use Rattle.exchanges.proofs.Joints.{Joint, new_joint, joined}
 use Rattle.exchanges.proofs.Records.{run_called}
@@ -76,38 +76,74 @@ pub record Told (s : Scheme) (room : ℕ) (d : Duo) : Type 0 where
   pub their_clear : Clears d.other.model
 
 -- between two suites with one root and no key
-module _ (s : Scheme) (law : Lawful s) (free : SerialFree s) (root : List ℕ) (last last' n n' room : ℕ) (seed answering spare : List ℕ)
-    (seed_is : Bytes16 seed) (answering_is : Bytes16 answering) (spare_is : Bytes16 spare) (enough : 255 ≤ room)
+module _ (s : Scheme) (law : Lawful s) (free : OfRootAndValue s) (root : List ℕ) (last last' n n' room : ℕ) (seed : List ℕ) (answering spare : Ancillary)
+    (seed_is : Bytes16 seed) (answering_is : Bytes16 answering.seed) (spare_is : Bytes16 spare.seed) (enough : 255 ≤ room)
     (base : Base root last n) (base' : Base root last' n') where
   abbrev meeting : Meeting
   meeting = record { mine = bare root last n; theirs = bare root last' n'; seed = seed; answering = answering; spare = spare; room = room }
 
-  -- the shared secret, and the check values that the Sender and the Recipient write
+  -- the two keyrings before the shared secret
+  abbrev mine_bare : Keyring
+  mine_bare = keyring_of (bare root last n)
+
+  abbrev their_bare : Keyring
+  their_bare = keyring_of (bare root last' n')
+
+  mine_first : Under root mine_bare
+  mine_first = bare_under root last n base.root_is
+
+  their_first : Under root their_bare
+  their_first = bare_under root last' n' base.root_is
+
+  -- the Sender's offer, and the shared secret that the Recipient makes of it
+  abbrev offer : List ℕ
+  offer = s.offer_of mine_bare seed
+
   abbrev value : List ℕ
-  value = s.secret_of root (n + 1) 1 seed (s.offer_of root answering)
+  value = s.secret_of their_bare 2 answering.seed offer
 
-  abbrev asked : List ℕ
-  asked = s.check_of root (n + 1) value 1
+  offer_bytes : Bytes offer
+  offer_bytes = law.offer_bytes mine_bare seed mine_first.formed seed_is
 
-  abbrev replied : List ℕ
-  replied = s.check_of root (n' + 1) value 2
+  offer_fits : s.fit_of their_bare offer ≡ true
+  offer_fits = law.fits root mine_bare their_bare seed mine_first their_first seed_is
 
   -- the shared secret has sixteen bytes
   value16 : Bytes16 value
-  value16 =
-      let bytes = law.offer_bytes root answering base.root_is answering_is in
-      let fit = law.fits root answering base.root_is answering_is in
-      law.secret_is root seed (s.offer_of root answering) (n + 1) 1 base.root_is seed_is bytes refl fit
+  value16 = law.secret_is their_bare answering.seed offer 2 their_first.formed answering_is offer_bytes refl offer_fits
 
-  -- and both come to it, and to the same check values
-  agreed : s.secret_of root (n' + 1) 2 answering (s.offer_of root seed) ≡ value
-  agreed = sym (law.agrees root seed answering (n + 1) (n' + 1) base.root_is seed_is answering_is)
+  -- the two keyrings with the shared secret
+  abbrev mine_ring : Keyring
+  mine_ring = keyring_of (agreed_suite root last (n + 1) value)
 
-  asked_alike : s.check_of root (n' + 1) value 1 ≡ asked
-  asked_alike = free.checks root value (n' + 1) (n + 1) 1
+  abbrev their_ring : Keyring
+  their_ring = keyring_of (agreed_suite root last' (n' + 1) value)
 
-  replied_alike : s.check_of root (n + 1) value 2 ≡ replied
-  replied_alike = free.checks root value (n + 1) (n' + 1) 2
+  mine_under : Under root mine_ring
+  mine_under = agreed_under root last (n + 1) value base.root_is (omega arith) value16
+
+  their_under : Under root their_ring
+  their_under = agreed_under root last' (n' + 1) value base.root_is (omega arith) value16
+
+  -- the Recipient's offer, and the check values that the Sender and the Recipient write
+  abbrev reply : List ℕ
+  reply = s.offer_of their_ring answering.seed
+
+  abbrev asked : List ℕ
+  asked = s.check_of mine_ring (n + 1) value 1
+
+  abbrev replied : List ℕ
+  replied = s.check_of their_ring (n' + 1) value 2
+
+  -- the Sender comes to the same secret, and both to the same check values
+  agreed : s.secret_of mine_bare 1 seed reply ≡ value
+  agreed = law.agrees root mine_bare their_bare mine_bare their_ring seed answering.seed mine_first their_first mine_first their_under seed_is answering_is
+
+  asked_alike : s.check_of their_ring (n' + 1) value 1 ≡ asked
+  asked_alike = free.checks root their_ring mine_ring value (n' + 1) (n + 1) 1 their_under mine_under
+
+  replied_alike : s.check_of mine_ring (n + 1) value 2 ≡ replied
+  replied_alike = free.checks root mine_ring their_ring value (n + 1) (n' + 1) 2 mine_under their_under
 
   -- there is room, and nothing is too long
 
@@ -120,12 +156,12 @@ module _ (s : Scheme) (law : Lawful s) (free : SerialFree s) (root : List ℕ) (
   fits : (v : Service) (said : Said) → length (fields said) ≤ 65 → ltb 255 (length (said_by v said)) ≡ false
   fits v said h = le-ltb 255 (length (said_by v said)) (omega arith)
 
-  offer_most : {own : List ℕ} → Bytes16 own → length (s.offer_of root own) ≤ 64
-  offer_most {own} h = let long = law.offer_long root own base.root_is h in let bound = law.offer_bound in omega arith
+  offer_most : (k : Keyring) (own : List ℕ) → Under root k → Bytes16 own → length (s.offer_of k own) ≤ 64
+  offer_most k own u h = let long = law.offer_long k own u.formed h in let bound = law.offer_bound in omega arith
 
-  check_most : (serial role : ℕ) → ok_role role ≡ true → length (s.check_of root serial value role) ≤ 65
-  check_most serial role ok =
-      let long = law.check_long root value serial role base.root_is value16 ok in
+  check_most : (k : Keyring) (serial role : ℕ) → Under root k → ok_role role ≡ true → length (s.check_of k serial value role) ≤ 65
+  check_most k serial role u ok =
+      let long = law.check_long k value serial role u.formed value16 ok in
       let bound = law.check_bound in
       omega arith
 
@@ -141,10 +177,10 @@ module _ (s : Scheme) (law : Lawful s) (free : SerialFree s) (root : List ℕ) (
   their_sharing state v = sharing root last' (n' + 1) value state v Recipient no_seed
 
   abbrev mine_link : List ℕ
-  mine_link = s.link_of root (n + 1) value ((n + 1) + 1)
+  mine_link = s.link_of mine_ring (n + 1) value
 
   abbrev their_link : List ℕ
-  their_link = s.link_of root (n' + 1) value ((n' + 1) + 1)
+  their_link = s.link_of their_ring (n' + 1) value
 
   abbrev mine_linked : Model
   mine_linked = linking root last (n + 1) value mine_link Sender seed s.first
@@ -155,10 +191,10 @@ module _ (s : Scheme) (law : Lawful s) (free : SerialFree s) (root : List ℕ) (
   -- the first three calls
 
   abbrev said_act_req : Service → List ℕ
-  said_act_req v = said_by v (act_req s.pid (s.offer_of root seed))
+  said_act_req v = said_by v (act_req s.pid offer)
 
   abbrev said_act_res : Service → List ℕ
-  said_act_res v = said_by v (act_res (s.offer_of root answering))
+  said_act_res v = said_by v (act_res reply)
 
   abbrev turn1 : Service → Turn
   turn1 v = stepped (selecting (bare root last n) v seed) conf.Nothing 0 (said_act_req v)
@@ -174,25 +210,24 @@ module _ (s : Scheme) (law : Lawful s) (free : SerialFree s) (root : List ℕ) (
 
   second : (v : Service) → n' < last' → turn s (fresh (bare root last' n')) (frame (said_act_req v) answering room) ≡ turn2 v
   second v h =
-      let most = offer_most seed_is in
-      let short = fits v (act_req s.pid (s.offer_of root seed)) (omega arith) in
-      let fit = law.fits root seed base.root_is seed_is in
-      let made : List ℕ → Model = λ z. sharing root last' (n' + 1) z EstablishedRecipient v Recipient no_seed in
-      reply_is s root last' n' room wide v (s.offer_of root seed) answering (sixteen answering_is) short fit (left n' last' h)
-      ∙ ap (λ z. stepped (made z) conf.Nothing (n' + 1) (said_act_res v)) agreed
+      let most = offer_most mine_bare seed mine_first seed_is in
+      let short = fits v (act_req s.pid offer) (omega arith) in
+      reply_is s root last' n' room wide v offer answering (sixteen answering_is) short offer_fits (left n' last' h)
 
   third : (v : Service) → n < last → turn s (selecting (bare root last n) v seed) (frame (said_act_res v) spare room) ≡ turn3 v
   third v h =
-      let most = offer_most answering_is in
-      let short = fits v (act_res (s.offer_of root answering)) (omega arith) in
-      let fit = law.fits root answering base.root_is answering_is in
-      check_is s root last n room wide v (s.offer_of root answering) seed spare (sixteen spare_is) (sixteen seed_is) short fit (left n last h)
+      let most = offer_most their_ring answering.seed their_under answering_is in
+      let short = fits v (act_res reply) (omega arith) in
+      let fit = law.fits root their_ring mine_bare answering.seed their_under mine_first answering_is in
+      let ring : List ℕ → Keyring = λ z. keyring_of (agreed_suite root last (n + 1) z) in
+      let asks : List ℕ → Turn = λ z. stepped (sharing root last (n + 1) z EstablishedSender v Sender seed) conf.Nothing (n + 1) (said_by v (vfy_req (s.check_of (ring z) (n + 1) z 1))) in
+      check_is s root last n room wide v reply seed spare (sixteen spare_is) short fit (left n last h) ∙ ap asks agreed
 
   asked_fits : (v : Service) → ltb 255 (length (said_by v (vfy_req asked))) ≡ false
-  asked_fits v = fits v (vfy_req asked) (check_most (n + 1) 1 refl)
+  asked_fits v = fits v (vfy_req asked) (check_most mine_ring (n + 1) 1 mine_under refl)
 
   replied_fits : (v : Service) → ltb 255 (length (said_by v (vfy_res replied))) ≡ false
-  replied_fits v = fits v (vfy_res replied) (check_most (n' + 1) 2 refl)
+  replied_fits v = fits v (vfy_res replied) (check_most their_ring (n' + 1) 2 their_under refl)
 
   -- the last two for SCH
 
@@ -203,9 +238,9 @@ module _ (s : Scheme) (law : Lawful s) (free : SerialFree s) (root : List ℕ) (
       let some' : 0 < n' + 1 = omega arith in
       let full : Base root last ((n + 1) + 1) = record { root_is = base.root_is; below = omega arith; word = base.word } in
       let full' : Base root last' ((n' + 1) + 1) = record { root_is = base.root_is; below = omega arith; word = base'.word } in
-      let mine16 = law.link_is root value (n + 1) ((n + 1) + 1) base.root_is value16 in
-      let their16 = law.link_is root value (n' + 1) ((n' + 1) + 1) base.root_is value16 in
-      let alike : their_link ≡ mine_link = free.links root value (n' + 1) (n + 1) ((n' + 1) + 1) ((n + 1) + 1) in
+      let mine16 = law.link_is mine_ring value (n + 1) mine_under.formed value16 in
+      let their16 = law.link_is their_ring value (n' + 1) their_under.formed value16 in
+      let alike : their_link ≡ mine_link = free.links root their_ring mine_ring value (n' + 1) (n + 1) their_under mine_under in
       let theirs = linked_in root last' (n' + 1) value their_link Recipient no_seed s.first full' some' value16 their16 in
       record {
         value = mine_link;
@@ -235,10 +270,9 @@ module _ (s : Scheme) (law : Lawful s) (free : SerialFree s) (root : List ℕ) (
   -- all five
   link_up : n + 2 ≤ last → n' + 2 ≤ last' → Started s (activated s Sch meeting)
   link_up h h' =
-      let mine_offer = law.offer_bytes root seed base.root_is seed_is in
-      let their_offer = law.offer_bytes root answering base.root_is answering_is in
-      let asked_bytes = law.check_bytes root value (n + 1) 1 base.root_is value16 refl in
-      let replied_bytes = law.check_bytes root value (n' + 1) 2 base.root_is value16 refl in
+      let reply_bytes = law.offer_bytes their_ring answering.seed their_under.formed answering_is in
+      let asked_bytes = law.check_bytes mine_ring value (n + 1) 1 mine_under.formed value16 refl in
+      let replied_bytes = law.check_bytes their_ring value (n' + 1) 2 their_under.formed value16 refl in
       five s Sch meeting (Started s) (turn1 Sch) (turn2 Sch) (turn3 Sch) turn4_sch turn5_sch
       (first Sch) (second Sch (omega arith)) (third Sch (omega arith)) (fourth_sch h') (fifth_sch h)
       (record {
@@ -248,8 +282,8 @@ module _ (s : Scheme) (law : Lawful s) (free : SerialFree s) (root : List ℕ) (
         joint = new_joint (linked h h' _ refl refl) (starts (omega arith) refl) (starts (omega arith) refl);
         none_sent = (refl, refl);
         none_handed = (refl, refl);
-        mine_given = (((lit< tt, replied_bytes), spare_is.bytes), (((lit< tt, their_offer), spare_is.bytes), (seed_is.bytes, tt)));
-        their_given = (((lit< tt, asked_bytes), spare_is.bytes), (((lit< tt, (law.pid_byte, mine_offer)), answering_is.bytes), tt));
+        mine_given = (((lit< tt, replied_bytes), spare_is.bytes), (((lit< tt, reply_bytes), spare_is.bytes), (seed_is.bytes, tt)));
+        their_given = (((lit< tt, asked_bytes), spare_is.bytes), (((lit< tt, (law.pid_byte, offer_bytes)), answering_is.bytes), tt));
         mine_clear = both_gone root last (n + 1) value mine_link (omega arith);
         their_clear = both_gone root last' (n' + 1) value their_link (omega arith);
       })
@@ -301,17 +335,17 @@ as_bare v x r =
 
 -- the other's suite, with that root
 their_base : {v : Service} {x : Meeting} → Ready v x → Base x.mine.root x.theirs.last x.theirs.newest
-their_base r = record { root_is = r.mine_formed.root; below = r.theirs_formed.newest; word = r.theirs_formed.last }
+their_base r = record { root_is = r.mine_formed.keyring.root; below = r.theirs_formed.newest; word = r.theirs_formed.last }
 
 -- the activation of any two entities that are ready
 
-pub link_starts : (s : Scheme) → Lawful s → SerialFree s → (x : Meeting) → Ready Sch x → Started s (activated s Sch x)
+pub link_starts : (s : Scheme) → Lawful s → OfRootAndValue s → (x : Meeting) → Ready Sch x → Started s (activated s Sch x)
 link_starts s law free x r =
     subst (λ z. Started s (activated s Sch z)) (sym (as_bare Sch x r))
     (link_up s law free x.mine.root x.mine.last x.theirs.last x.mine.newest x.theirs.newest x.room x.seed x.answering x.spare
     r.seed_is r.answering_is r.spare_is r.enough (base_of r.mine_formed) (their_base r) r.mine_left r.theirs_left)
 
-pub secret_told : (s : Scheme) → Lawful s → SerialFree s → (x : Meeting) → Ready Sse x → (room : ℕ) → 16 ≤ room
+pub secret_told : (s : Scheme) → Lawful s → OfRootAndValue s → (x : Meeting) → Ready Sse x → (room : ℕ) → 16 ≤ room
     → Told s room (activated s Sse x)
 secret_told s law free x r more big =
     subst (λ z. Told s more (activated s Sse z)) (sym (as_bare Sse x r))
@@ -354,8 +388,8 @@ link_succeeds s law free x r =
 
 -- The premises.
 
-pub kinds_serial_free : KindsSerialFree
-kinds_serial_free k = record { checks = λ root value serial serial' role. refl; links = λ root value serial serial' link link'. refl }
+pub kinds_fit : KindsOfRootAndValue
+kinds_fit k = record { checks = λ root r r' value serial serial' role u u'. refl; links = λ root r r' value serial serial' u u'. refl }
 
 pub new_fresh : NewIsFresh
 new_fresh means formed none = record { formed = formed; idle = refl; no_live = none; no_secret = refl; no_link = refl; none_held = refl }
@@ -371,8 +405,8 @@ two_left = bare no_seed 2 0
 
 pub some_ready : SomeReady
 some_ready =
-    let formed : WellFormed two_left = record { root = zeros_are; last = lit< tt; newest = lit≤ tt; values = tt; serials = tt; apart = tt } in (
-      record { mine = two_left; theirs = two_left; seed = no_seed; answering = no_seed; spare = no_seed; room = 255 },
+    let formed : WellFormed two_left = record { keyring = (bare_under no_seed 2 0 zeros_are).formed; last = lit< tt; newest = lit≤ tt } in (
+      record { mine = two_left; theirs = two_left; seed = no_seed; answering = record { seed = no_seed }; spare = record { seed = no_seed }; room = 255 },
       record {
         mine_formed = formed;
         theirs_formed = formed;

@@ -47,7 +47,7 @@ record LeftIdle (d e : Duo) : Type 0 where
   mine : e.one.model ≡ idle d.one.model
   theirs : e.other.model ≡ idle d.other.model
 
-module _ (s : Scheme) (x : Meeting) (spare : Bytes16 x.spare) (enough : 255 ≤ x.room) (v : Service) (d : Duo)
+module _ (s : Scheme) (x : Meeting) (spare : Bytes16 x.spare.seed) (enough : 255 ≤ x.room) (v : Service) (d : Duo)
     (mine : Confirmed v d.one.model) (theirs : Confirmed v d.other.model) where
   -- the two calls, by what they do
   abbrev ends : Turn
@@ -92,7 +92,7 @@ none_left : {d e : Duo} → LeftIdle d e → Clears d.one.model → Clears d.oth
 none_left p mine theirs = (ap (λ z. z.means.live) p.mine ∙ mine, ap (λ z. z.means.live) p.theirs ∙ theirs)
 
 -- whichever terminates
-ends_well : (s : Scheme) (x : Meeting) → Bytes16 x.spare → 255 ≤ x.room → (v : Service) (d : Duo)
+ends_well : (s : Scheme) (x : Meeting) → Bytes16 x.spare.seed → 255 ≤ x.room → (v : Service) (d : Duo)
     → Confirmed v d.one.model → Confirmed v d.other.model → Clears d.one.model → Clears d.other.model → EndsWell s x d
 ends_well s x spare enough v d mine theirs mine_clear their_clear =
     let p = left_idle s x spare enough v d mine theirs in

@@ -47,7 +47,7 @@ module _ (a b : List (List ℕ)) (more : Among a b) where
   call_more (retrieve_data room) h = tt
   call_more (retrieve_secret room) h = tt
   call_more (terminate room) h = tt
-  call_more (frame bytes seed room) h = copy_more bytes h
+  call_more (frame bytes beside room) h = copy_more bytes h
   call_more release h = tt
 
   pub only_more : (h : History) → OnlyCopies a h → OnlyCopies b h

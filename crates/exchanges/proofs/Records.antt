@@ -6,17 +6,17 @@ use Rattle.suite.specs.declared.types.Role.{Role}
 use Rattle.suite.specs.declared.types.Role.TheVariants.{Sender, Recipient}
 use Rattle.suite.specs.declared.types.KeyKind.TheVariants.{LinkKey}
 use Rattle.suite.specs.Numbers.{role_byte}
-use Rattle.suite.specs.Meanings.{Meaning, Bytes, Bytes16}
+use Rattle.suite.specs.Meanings.{Meaning, Keyring, keyring_of, Bytes, Bytes16}
 use Rattle.suite.specs.Schemes.{Scheme, Lawful, Sealable}
 use Rattle.protocol.specs.declared.outcomes.Confirmation.TheVariants as conf
 use Rattle.protocol.specs.Models.{Model, fresh}
 use Rattle.protocol.specs.Steps.{said_by}
-use Rattle.protocol.specs.Calls.{Call, send, retrieve_data, frame, Turn, turn}
-use Rattle.histories.specs.Histories.{History, GivenBytes, entered, after, goes_on, confirms, answers, sent, handed}
+use Rattle.protocol.specs.Calls.{Call, GivenBytes, send, retrieve_data, frame, Turn, turn}
+use Rattle.histories.specs.Histories.{History, entered, after, goes_on, confirms, answers, sent, handed}
 use Rattle.histories.specs.Sessions.{encs, In}
 use Rattle.exchanges.specs.Duos.{End, Duo, called, last_answer, last_written, Meeting, Line, here, there, turned, passed, talked, said_here, said_there}
 use Rattle.exchanges.specs.Exchanges.{opposite, InLink, Matched, Fit, AllFit, HandedOver, RecordsPass, RecordPasses, IsRun}
-use Rattle.exchanges.proofs.Shapes.{value_is}
+use Rattle.suite.proofs.KeyLaws.{value_formed}
 use Rattle.exchanges.proofs.Turns.{stepped, role_ok, send_is, hear_is, data_is}
 use Rattle.exchanges.proofs.Joints.{Among, in_back, among_more, among_both, only_more, Joint, turn_joint}
 
@@ -76,7 +76,7 @@ opposite_differs : (r : Role) → eqb (role_byte r) (role_byte (opposite r)) ≡
 opposite_differs Sender = refl
 opposite_differs Recipient = refl
 
-module _ (s : Scheme) (law : Lawful s) (x : Meeting) (spare : Bytes16 x.spare) (enough : 255 ≤ x.room) (number : ℕ) (d : Duo)
+module _ (s : Scheme) (law : Lawful s) (x : Meeting) (spare : Bytes16 x.spare.seed) (enough : 255 ≤ x.room) (number : ℕ) (d : Duo)
     (M : Matched number d) (plain : List ℕ) (fit : Fit plain) (low : s.first ≤ number) (below : number < s.final) where
   -- the two, and what the one seals
 
@@ -86,34 +86,37 @@ module _ (s : Scheme) (law : Lawful s) (x : Meeting) (spare : Bytes16 x.spare) (
   abbrev receiver : Model
   receiver = d.other.model
 
+  abbrev mine_ring : Keyring
+  mine_ring = keyring_of sender.means
+
   abbrev role : ℕ
   role = role_byte sender.role
 
   abbrev payload : List ℕ
-  payload = s.seal_of sender.means.root sender.link M.value role (sender.number + 1) plain
+  payload = s.seal_of mine_ring sender.link M.value role (sender.number + 1) plain
 
   -- the link key has sixteen bytes
   value16 : Bytes16 M.value
-  value16 = value_is sender.means.live LinkKey sender.link M.value M.mine.formed.values M.mine.key
+  value16 = value_formed mine_ring LinkKey sender.link M.value M.mine.formed.keyring M.mine.key
 
   -- the record can be sealed; its payload is short, made of bytes, and opens to it
   can : Sealable s (sender.number + 1) plain
   can = let at = M.mine_at in record { some = fit.some; most = fit.most; bytes = fit.bytes; low = omega arith; high = omega arith }
 
   size : length payload ≡ length plain + s.overhead
-  size = law.seal_long sender.means.root M.value plain sender.link role (sender.number + 1) M.mine.formed.root value16 (role_ok sender.role)
+  size = law.seal_long mine_ring M.value plain sender.link role (sender.number + 1) M.mine.formed.keyring value16 (role_ok sender.role)
 
   short : length payload ≤ 254
   short = let most = fit.most in let over = law.overhead_bound in omega (arith, size)
 
   sealed_bytes : Bytes payload
   sealed_bytes =
-      law.seal_bytes sender.means.root M.value plain sender.link role (sender.number + 1) M.mine.formed.root value16 (role_ok sender.role) can
+      law.seal_bytes mine_ring M.value plain sender.link role (sender.number + 1) M.mine.formed.keyring value16 (role_ok sender.role) can
 
-  opened : s.open_of receiver.means.root receiver.link M.value payload ≡ Some (role, receiver.number + 1, plain)
+  opened : s.open_of (keyring_of receiver.means) receiver.link M.value payload ≡ Some (role, receiver.number + 1, plain)
   opened =
-      law.opens sender.means.root receiver.means.root M.value plain sender.link receiver.link role (sender.number + 1)
-      M.mine.formed.root M.theirs.formed.root value16 (role_ok sender.role) can
+      law.opens mine_ring (keyring_of receiver.means) M.value plain sender.link receiver.link role (sender.number + 1)
+      M.mine.formed.keyring M.theirs.formed.keyring value16 (role_ok sender.role) can
       ∙ ap (λ z. Some (role, z + 1, plain)) (M.mine_at ∙ sym M.theirs_at)
 
   differs : eqb role (role_byte receiver.role) ≡ false
@@ -132,17 +135,17 @@ module _ (s : Scheme) (law : Lawful s) (x : Meeting) (spare : Bytes16 x.spare) (
   first : turn s sender (send plain x.room) ≡ sends
   first =
       let at = M.mine_at in
-      send_is s law sender x.room enough plain fit M.value M.mine.confirmed M.mine.key (omega arith)
+      send_is s sender x.room enough plain fit M.value M.mine.confirmed M.mine.key (omega arith)
 
   second : turn s receiver (frame sends.reply x.spare x.room) ≡ takes
   second =
       let at = M.theirs_at in
-      hear_is s law receiver x.room enough plain fit M.value payload x.spare role M.theirs (omega arith) short spare differs opened
+      hear_is s receiver x.room enough plain fit M.value payload x.spare role M.theirs (omega arith) short spare differs opened
 
   third : turn s takes.model (retrieve_data x.room) ≡ gives
   third =
       let c = M.theirs.confirmed in
-      data_is s law takes.model x.room enough plain fit (record { state = c.state; service = c.service }) refl
+      data_is s takes.model x.room enough plain fit (record { state = c.state; service = c.service }) refl
 
   -- the two after these calls
   abbrev after_calls : Turn → Turn → Turn → Duo
@@ -322,7 +325,7 @@ none_said s number d M = record {
 at_number : {s : Scheme} {n k : ℕ} {d e : Duo} {talk : List Line} → n ≡ k → Goes s n d talk e → Goes s k d talk e
 at_number {s} {d} {e} {talk} same g = subst (λ z. Goes s z d talk e) same g
 
-module _ (s : Scheme) (law : Lawful s) (x : Meeting) (spare : Bytes16 x.spare) (enough : 255 ≤ x.room) where
+module _ (s : Scheme) (law : Lawful s) (x : Meeting) (spare : Bytes16 x.spare.seed) (enough : 255 ≤ x.room) where
   -- one record of the one
   line_goes : (number : ℕ) (d : Duo) (plain : List ℕ) → Matched number d → Fit plain → s.first ≤ number → number < s.final
       → Goes s (number + 1) d (here plain ∷ []) (passed s x d plain)

@@ -1,14 +1,14 @@
 -- What two entities are between the calls of an exchange.
-use Rattle.std.proofs.Common.{◌≡◌, ℕ, ◌+◌, ◌^◌, ◌<◌, ◌≤◌, Bool, true, false, cond, ◌&&◌, eqb, List, [], ◌∷◌, Some, Option, subst, refl, arith}
-use Rattle.std.specs.List.{AllByRecursion}
+use Rattle.std.proofs.Common.{◌≡◌, ℕ, ◌+◌, ◌^◌, ◌<◌, ◌≤◌, true, false, eqb, List, [], ◌∷◌, Some, refl, arith}
 use Rattle.std.proofs.lemmas.Bool.{ne_eqb, eq-eqb, or_from}
 use Rattle.frame.specs.declared.types.Service.{Service}
 use Rattle.frame.specs.declared.types.Service.TheVariants.{Sch}
 use Rattle.suite.specs.declared.types.Role.{Role}
 use Rattle.suite.specs.declared.types.Role.TheVariants.{Sender}
-use Rattle.suite.specs.declared.types.KeyKind.{KeyKind}
 use Rattle.suite.specs.declared.types.KeyKind.TheVariants.{SharedSecret, LinkKey}
-use Rattle.suite.specs.Meanings.{Key, Meaning, Bytes16, WellFormed, same_kind, value_in}
+use Rattle.suite.specs.Meanings.{Key, Meaning, Bytes16, WellFormed, keyring_of, value_in, value_of}
+use Rattle.suite.proofs.KeyLaws.{value_is, value_added}
+use Rattle.suite.specs.Schemes.{Under}
 use Rattle.protocol.specs.declared.states.State.{State}
 use Rattle.protocol.specs.declared.states.State.TheVariants.{Select, ConfirmedSch}
 use Rattle.exchanges.specs.Exchanges.{InLink}
@@ -48,7 +48,19 @@ pub record Base (root : List ℕ) (last newest : ℕ) : Type 0 where
 
 -- a well-formed suite has it
 pub base_of : {means : Meaning} → WellFormed means → Base means.root means.last means.newest
-base_of f = record { root_is = f.root; below = f.newest; word = f.last }
+base_of f = record { root_is = f.keyring.root; below = f.newest; word = f.last }
+
+-- keyrings under that root: of a suite without a key, and of one with a shared secret
+
+pub bare_under : (root : List ℕ) (last newest : ℕ) → Bytes16 root → Under root (keyring_of (bare root last newest))
+bare_under root last newest root_is = record { formed = record { root = root_is; values = tt; serials = tt; apart = tt }; same = refl }
+
+pub agreed_under : (root : List ℕ) (last serial : ℕ) (value : List ℕ) → Bytes16 root → 0 < serial → Bytes16 value
+    → Under root (keyring_of (agreed_suite root last serial value))
+agreed_under root last serial value root_is some v =
+    let low : 1 ≤ serial = some in
+    let self : serial ≤ serial = omega arith in
+    record { formed = record { root = root_is; values = (v, tt); serials = ((low, self), tt); apart = (refl, tt) }; same = refl }
 
 -- a suite with the two keys is well formed
 linked_formed : (root : List ℕ) (last serial : ℕ) (value link : List ℕ) → Base root last (serial + 1) → 0 < serial
@@ -60,30 +72,19 @@ linked_formed root last serial value link base some v l =
     let self : serial + 1 ≤ serial + 1 = omega arith in
     let differ : eqb (serial + 1) serial ≡ false = ne_eqb (serial + 1) serial (λ e. omega arith) in
     record {
-      root = base.root_is;
-      last = base.word;
+      keyring = record {
+        root = base.root_is;
+        values = (v, (l, tt));
+        serials = ((low, below), ((next, self), tt));
+        apart = (or_from (eqb (serial + 1) serial) false differ refl, (refl, tt));
+      };
       newest = base.below;
-      values = (v, (l, tt));
-      serials = ((low, below), ((next, self), tt));
-      apart = (or_from (eqb (serial + 1) serial) false differ refl, (refl, tt));
+      last = base.word;
     }
 
--- a value that is found first, or further on, has sixteen bytes
-
-same_value : {x y : List ℕ} → ◌≡◌ {A = Option (List ℕ)} (Some x) (Some y) → x ≡ y
-same_value e = cc
-
-first_is : (b : Bool) (one value : List ℕ) (rest : Option (List ℕ)) → Bytes16 one → (rest ≡ Some value → Bytes16 value)
-    → cond b (Some one) rest ≡ Some value → Bytes16 value
-first_is true one value rest h k e = subst Bytes16 (same_value e) h
-first_is false one value rest h k e = k e
-
--- the value of a live key has sixteen bytes
-pub value_is : (keys : List Key) (kind : KeyKind) (serial : ℕ) (value : List ℕ) → AllByRecursion (λ k. Bytes16 k.value) keys
-    → value_in keys kind serial ≡ Some value → Bytes16 value
-value_is [] kind serial value all e = absurd (cc)
-value_is (k ∷ keys) kind serial value all e =
-    first_is (eqb k.serial serial && same_kind k.kind kind) k.value value (value_in keys kind serial) all.0 (value_is keys kind serial value all.1) e
+-- the shared secret's value is found under its serial, with no other key
+pub secret_is : (serial : ℕ) (value : List ℕ) → value_of (secret_key serial value ∷ []) SharedSecret serial ≡ value
+secret_is serial value = value_is (secret_key serial value ∷ []) SharedSecret serial value (value_added [] (secret_key serial value) refl)
 
 -- the link key is found under its serial
 link_found : (root : List ℕ) (last serial : ℕ) (value link : List ℕ)

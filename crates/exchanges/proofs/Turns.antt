@@ -1,5 +1,5 @@
 -- What each call of an exchange does.
-use Rattle.std.proofs.Common.{◌≡◌, ℕ, ◌+◌, ◌<◌, ◌≤◌, true, false, eqb, ltb, leb, List, [], length, Some, None, Ok, refl, arith}
+use Rattle.std.proofs.Common.{◌≡◌, ℕ, ◌+◌, ◌<◌, ◌≤◌, true, false, eqb, ltb, leb, List, [], length, Some, None, Ok, refl, ap, ◌∙◌, arith}
 use Rattle.std.specs.Str.{bytes_eq}
 use Rattle.std.proofs.lemmas.Bool.{le-ltb, lt-leb, eq-eqb, ne_eqb}
 use Rattle.std.proofs.lemmas.Slice.Eq.{bytes_eq-Decides}
@@ -10,18 +10,19 @@ use Rattle.suite.specs.declared.types.Role.{Role}
 use Rattle.suite.specs.declared.types.Role.TheVariants.{Sender, Recipient}
 use Rattle.suite.specs.declared.types.KeyKind.TheVariants.{LinkKey}
 use Rattle.suite.specs.Numbers.{role_byte}
-use Rattle.suite.specs.Meanings.{Bytes16, value_in}
-use Rattle.suite.specs.Schemes.{Scheme, Lawful, ok_role}
+use Rattle.suite.specs.Meanings.{Bytes16, keyring_of, value_in}
+use Rattle.suite.specs.Schemes.{Scheme, ok_role}
+use Rattle.suite.proofs.KeyLaws.{value_is}
 use Rattle.protocol.specs.declared.states.State.{State}
 use Rattle.protocol.specs.declared.states.State.TheVariants.{EstablishedSender, EstablishedRecipient, ConfirmedSse}
 use Rattle.protocol.specs.declared.outcomes.Confirmation.{Confirmation}
 use Rattle.protocol.specs.declared.outcomes.Confirmation.TheVariants as conf
 use Rattle.protocol.specs.Outcomes.{quiet}
-use Rattle.protocol.specs.Models.{Model, fresh, no_seed}
-use Rattle.protocol.specs.Steps.{said_by}
+use Rattle.protocol.specs.Models.{Model, Ancillary, fresh, no_seed}
+use Rattle.protocol.specs.Steps.{said_by, with_secret, check_value, derivation, sealed_record, good, opened_record}
 use Rattle.protocol.specs.Calls.{Turn, invoke, send, retrieve_data, retrieve_secret, terminate, frame, turn, ended}
 use Rattle.exchanges.specs.Exchanges.{Confirmed, InLink, Fit}
-use Rattle.exchanges.proofs.Shapes.{bare, selecting, sharing, linking}
+use Rattle.exchanges.proofs.Shapes.{bare, agreed_suite, secret_is, selecting, sharing, linking}
 
 -- a call that meets no fault and destroys no key
 abbrev pub stepped : Model → Confirmation → ℕ → List ℕ → Turn
@@ -37,7 +38,7 @@ module _ (s : Scheme) (root : List ℕ) (last n room : ℕ) (wide : ltb room 255
   -- INVOKE
   pub ask_is : (v : Service) (seed : List ℕ) → eqb (length seed) 16 ≡ true
       → turn s (fresh (bare root last n)) (invoke v s.pid seed room)
-      ≡ stepped (selecting (bare root last n) v seed) conf.Nothing 0 (said_by v (act_req s.pid (s.offer_of root seed)))
+      ≡ stepped (selecting (bare root last n) v seed) conf.Nothing 0 (said_by v (act_req s.pid (s.offer_of (keyring_of (bare root last n)) seed)))
   ask_is v seed long = let pid = eq-eqb s.pid s.pid refl in rw (wide, long, pid)
 
   -- the two once they have a shared secret of this value
@@ -48,66 +49,88 @@ module _ (s : Scheme) (root : List ℕ) (last n room : ℕ) (wide : ltb room 255
   asking v seed value = sharing root last (n + 1) value EstablishedSender v Sender seed
 
   -- ACT_REQ
-  pub reply_is : (v : Service) (offer seed : List ℕ) → eqb (length seed) 16 ≡ true
-      → ltb 255 (length (said_by v (act_req s.pid offer))) ≡ false → s.fit_of root offer ≡ true → eqb n last ≡ false
-      → turn s (fresh (bare root last n)) (frame (said_by v (act_req s.pid offer)) seed room)
-      ≡ stepped (agreeing v (s.secret_of root (n + 1) 2 seed offer)) conf.Nothing (n + 1) (said_by v (act_res (s.offer_of root seed)))
-  reply_is Sse offer seed long short fit left = let pid = eq-eqb s.pid s.pid refl in rw (wide, long, short, pid, long, fit, left)
-  reply_is Sch offer seed long short fit left = let pid = eq-eqb s.pid s.pid refl in rw (wide, long, short, pid, long, fit, left)
+  pub reply_is : (v : Service) (offer : List ℕ) (answering : Ancillary) → eqb (length answering.seed) 16 ≡ true
+      → ltb 255 (length (said_by v (act_req s.pid offer))) ≡ false → s.fit_of (keyring_of (bare root last n)) offer ≡ true → eqb n last ≡ false
+      → let value = s.secret_of (keyring_of (bare root last n)) 2 answering.seed offer in
+      turn s (fresh (bare root last n)) (frame (said_by v (act_req s.pid offer)) answering room)
+      ≡ stepped (agreeing v value) conf.Nothing (n + 1) (said_by v (act_res (s.offer_of (keyring_of (agreed_suite root last (n + 1) value)) answering.seed)))
+  reply_is Sse offer answering long short fit left = let pid = eq-eqb s.pid s.pid refl in rw (wide, long, short, pid, fit, left)
+  reply_is Sch offer answering long short fit left = let pid = eq-eqb s.pid s.pid refl in rw (wide, long, short, pid, fit, left)
+
+  -- the check value that the Sender asks with
+  asks_by : (v : Service) (seed value : List ℕ)
+      → check_value s (with_secret (selecting (bare root last n) v seed) value) Sender ≡ s.check_of (keyring_of (agreed_suite root last (n + 1) value)) (n + 1) value 1
+  asks_by v seed value = ap (λ z. s.check_of (keyring_of (agreed_suite root last (n + 1) value)) (n + 1) z 1) (secret_is (n + 1) value)
 
   -- ACT_RES
-  pub check_is : (v : Service) (offer seed spare : List ℕ) → eqb (length spare) 16 ≡ true → eqb (length seed) 16 ≡ true
-      → ltb 255 (length (said_by v (act_res offer))) ≡ false → s.fit_of root offer ≡ true → eqb n last ≡ false
-      → let value = s.secret_of root (n + 1) 1 seed offer in
+  pub check_is : (v : Service) (offer seed : List ℕ) (spare : Ancillary) → eqb (length spare.seed) 16 ≡ true
+      → ltb 255 (length (said_by v (act_res offer))) ≡ false → s.fit_of (keyring_of (bare root last n)) offer ≡ true → eqb n last ≡ false
+      → let value = s.secret_of (keyring_of (bare root last n)) 1 seed offer in
       turn s (selecting (bare root last n) v seed) (frame (said_by v (act_res offer)) spare room)
-      ≡ stepped (asking v seed value) conf.Nothing (n + 1) (said_by v (vfy_req (s.check_of root (n + 1) value 1)))
-  check_is Sse offer seed spare long kept short fit left = let own = eq-eqb (n + 1) (n + 1) refl in rw (wide, long, short, kept, fit, left, own)
-  check_is Sch offer seed spare long kept short fit left = let own = eq-eqb (n + 1) (n + 1) refl in rw (wide, long, short, kept, fit, left, own)
+      ≡ stepped (asking v seed value) conf.Nothing (n + 1) (said_by v (vfy_req (s.check_of (keyring_of (agreed_suite root last (n + 1) value)) (n + 1) value 1)))
+  check_is Sse offer seed spare long short fit left = let own = asks_by Sse seed (s.secret_of (keyring_of (bare root last n)) 1 seed offer) in rw (wide, long, short, fit, left, own)
+  check_is Sch offer seed spare long short fit left = let own = asks_by Sch seed (s.secret_of (keyring_of (bare root last n)) 1 seed offer) in rw (wide, long, short, fit, left, own)
 
 -- with a shared secret, and the check values of the Sender and of the Recipient
 module _ (s : Scheme) (root : List ℕ) (last n room : ℕ) (wide : ltb room 255 ≡ false)
-    (value spare : List ℕ) (long : eqb (length spare) 16 ≡ true)
-    (asked replied : List ℕ) (senders : s.check_of root n value 1 ≡ asked) (recipients : s.check_of root n value 2 ≡ replied) where
+    (value : List ℕ) (spare : Ancillary) (long : eqb (length spare.seed) 16 ≡ true) (asked replied : List ℕ)
+    (senders : s.check_of (keyring_of (agreed_suite root last n value)) n value 1 ≡ asked)
+    (recipients : s.check_of (keyring_of (agreed_suite root last n value)) n value 2 ≡ replied) where
   -- before and after the confirmation
   abbrev before : State → Service → Role → List ℕ → Model
   before state v role seed = sharing root last n value state v role seed
 
   abbrev linked : Role → List ℕ → Model
-  linked role seed = linking root last n value (s.link_of root n value (n + 1)) role seed s.first
+  linked role seed = linking root last n value (s.link_of (keyring_of (agreed_suite root last n value)) n value) role seed s.first
+
+  -- the check value of each role, and what is derived
+  checks : (state : State) (v : Service) (role other : Role) (seed : List ℕ)
+      → check_value s (before state v role seed) other ≡ s.check_of (keyring_of (agreed_suite root last n value)) n value (role_byte other)
+  checks state v role other seed = ap (λ z. s.check_of (keyring_of (agreed_suite root last n value)) n z (role_byte other)) (secret_is n value)
+
+  derives : (state : State) (role : Role) (seed : List ℕ) → eqb n last ≡ false
+      → derivation s (before state Sch role seed) ≡ Ok (s.link_of (keyring_of (agreed_suite root last n value)) n value)
+  derives state role seed left =
+      let same = secret_is n value in
+      rw (left, same)
 
   -- VFY_REQ
   pub confirm_sse : ltb 255 (length (said_by Sse (vfy_req asked))) ≡ false
       → turn s (before EstablishedRecipient Sse Recipient no_seed) (frame (said_by Sse (vfy_req asked)) spare room)
       ≡ stepped (before ConfirmedSse Sse Recipient no_seed) conf.Established 0 (said_by Sse (vfy_res replied))
   confirm_sse short =
-      let self = eq-eqb n n refl in
+      let theirs = checks EstablishedRecipient Sse Recipient Sender no_seed ∙ senders in
+      let own = checks EstablishedRecipient Sse Recipient Recipient no_seed ∙ recipients in
       let same = same_bytes asked in
-      rw (wide, long, short, self, senders, same, recipients)
+      rw (wide, long, short, theirs, same, own)
 
   pub confirm_sch : ltb 255 (length (said_by Sch (vfy_req asked))) ≡ false → eqb n last ≡ false
       → turn s (before EstablishedRecipient Sch Recipient no_seed) (frame (said_by Sch (vfy_req asked)) spare room)
       ≡ stepped (linked Recipient no_seed) conf.Established (n + 1) (said_by Sch (vfy_res replied))
   confirm_sch short left =
-      let self = eq-eqb n n refl in
+      let theirs = checks EstablishedRecipient Sch Recipient Sender no_seed ∙ senders in
+      let own = checks EstablishedRecipient Sch Recipient Recipient no_seed ∙ recipients in
+      let link = derives EstablishedRecipient Recipient no_seed left in
       let same = same_bytes asked in
-      rw (wide, long, short, self, senders, same, recipients, left)
+      rw (wide, long, short, theirs, same, own, link)
 
   -- VFY_RES
   pub complete_sse : (seed : List ℕ) → ltb 255 (length (said_by Sse (vfy_res replied))) ≡ false
       → turn s (before EstablishedSender Sse Sender seed) (frame (said_by Sse (vfy_res replied)) spare room)
       ≡ stepped (before ConfirmedSse Sse Sender seed) conf.Established 0 []
   complete_sse seed short =
-      let self = eq-eqb n n refl in
+      let theirs = checks EstablishedSender Sse Sender Recipient seed ∙ recipients in
       let same = same_bytes replied in
-      rw (wide, long, short, self, recipients, same)
+      rw (wide, long, short, theirs, same)
 
   pub complete_sch : (seed : List ℕ) → ltb 255 (length (said_by Sch (vfy_res replied))) ≡ false → eqb n last ≡ false
       → turn s (before EstablishedSender Sch Sender seed) (frame (said_by Sch (vfy_res replied)) spare room)
       ≡ stepped (linked Sender seed) conf.Established (n + 1) []
   complete_sch seed short left =
-      let self = eq-eqb n n refl in
+      let theirs = checks EstablishedSender Sch Sender Recipient seed ∙ recipients in
+      let link = derives EstablishedSender Sender seed left in
       let same = same_bytes replied in
-      rw (wide, long, short, self, recipients, same, left)
+      rw (wide, long, short, theirs, same, link)
 
 -- RETRIEVE_SECRET
 pub tell_is : (s : Scheme) (root : List ℕ) (last n : ℕ) (role : Role) (seed value : List ℕ) (room : ℕ) → ltb room 16 ≡ false
@@ -122,7 +145,7 @@ pub role_ok : (r : Role) → ok_role (role_byte r) ≡ true
 role_ok Sender = refl
 role_ok Recipient = refl
 
-module _ (s : Scheme) (law : Lawful s) (m : Model) (room : ℕ) (enough : 255 ≤ room) (plain : List ℕ) (fit : Fit plain) where
+module _ (s : Scheme) (m : Model) (room : ℕ) (enough : 255 ≤ room) (plain : List ℕ) (fit : Fit plain) where
   -- the facts that each call needs
   roomy : ltb room 255 ≡ false
   roomy = le-ltb room 255 enough
@@ -135,33 +158,32 @@ module _ (s : Scheme) (law : Lawful s) (m : Model) (room : ℕ) (enough : 255 �
 
   -- SEND
   pub send_is : (value : List ℕ) → Confirmed Sch m → value_in m.means.live LinkKey m.link ≡ Some value → m.number < s.final
-      → let payload = s.seal_of m.means.root m.link value (role_byte m.role) (m.number + 1) plain in
+      → let payload = s.seal_of (keyring_of m.means) m.link value (role_byte m.role) (m.number + 1) plain in
       turn s m (send plain room) ≡ stepped (record m { number = m.number + 1 }) conf.DataSent 0 (said_by Sch (enc payload))
   send_is value c key below =
-      let top = law.final_bound in
       let state = c.state in
       let next : leb s.final m.number ≡ false = lt-leb s.final m.number below in
-      let ok : ok_role (role_byte m.role) ≡ true = role_ok m.role in
-      let low : ltb 16777215 (m.number + 1) ≡ false = le-ltb 16777215 (m.number + 1) (omega arith) in
-      rw (roomy, state, filled, not_long, next, ok, low, key)
+      let sealed : sealed_record s m (m.number + 1) plain ≡ s.seal_of (keyring_of m.means) m.link value (role_byte m.role) (m.number + 1) plain
+      = ap (λ z. s.seal_of (keyring_of m.means) m.link z (role_byte m.role) (m.number + 1) plain) (value_is m.means.live LinkKey m.link value key) in
+      rw (sealed, roomy, state, filled, not_long, next)
 
   -- ENC of the other role
-  pub hear_is : (value payload spare : List ℕ) (role : ℕ) → InLink value m → m.number < s.final → length payload ≤ 254 → Bytes16 spare
-      → eqb role (role_byte m.role) ≡ false → s.open_of m.means.root m.link value payload ≡ Some (role, m.number + 1, plain)
+  pub hear_is : (value payload : List ℕ) (spare : Ancillary) (role : ℕ) → InLink value m → m.number < s.final → length payload ≤ 254 → Bytes16 spare.seed
+      → eqb role (role_byte m.role) ≡ false → s.open_of (keyring_of m.means) m.link value payload ≡ Some (role, m.number + 1, plain)
       → turn s m (frame (said_by Sch (enc payload)) spare room)
       ≡ stepped (record m { number = m.number + 1; held = plain }) conf.DataAvailable 0 []
   hear_is value payload spare role c below light h differs opens =
       let state = c.confirmed.state in
       let service = c.confirmed.service in
       let none = c.none_held in
-      let key = c.key in
-      let sixteen : eqb (length spare) 16 ≡ true = eq-eqb (length spare) 16 h.long in
+      let opened : opened_record s m payload ≡ Ok (role, m.number + 1, plain)
+      = ap (λ z. good (s.open_of (keyring_of m.means) m.link z payload)) (value_is m.means.live LinkKey m.link value c.key) ∙ ap good opens in
+      let sixteen : eqb (length spare.seed) 16 ≡ true = eq-eqb (length spare.seed) 16 h.long in
       let short : ltb 255 (length (said_by Sch (enc payload))) ≡ false = le-ltb 255 (length (said_by Sch (enc payload))) (omega arith) in
-      let fits : ltb 254 (length payload) ≡ false = le-ltb 254 (length payload) light in
       let other : eqb (m.number + 1) m.number ≡ false = ne_eqb (m.number + 1) m.number (λ e. omega arith) in
       let self : eqb (m.number + 1) (m.number + 1) ≡ true = eq-eqb (m.number + 1) (m.number + 1) refl in
       let low : ltb s.final (m.number + 1) ≡ false = le-ltb s.final (m.number + 1) (omega arith) in
-      rw (roomy, sixteen, short, none, state, service, fits, key, opens, filled, not_long, other, differs, self, low)
+      rw (roomy, sixteen, short, none, state, service, opened, filled, not_long, other, differs, self, low)
 
   -- RETRIEVE_DATA
   pub data_is : Confirmed Sch m → m.held ≡ plain → turn s m (retrieve_data room) ≡ stepped (record m { held = [] }) conf.Nothing 0 plain
@@ -183,15 +205,15 @@ module _ (s : Scheme) (m : Model) (room : ℕ) (enough : 255 ≤ room) where
   part_is Sch c = let state = c.state in let service = c.service in rw (wide, state, service)
 
   -- TMN
-  pub parted_is : (v : Service) (spare : List ℕ) → Confirmed v m → Bytes16 spare
+  pub parted_is : (v : Service) (spare : Ancillary) → Confirmed v m → Bytes16 spare.seed
       → turn s m (frame (said_by v (tmn [])) spare room) ≡ ended m conf.Terminated [] None
   parted_is Sse spare c h =
-      let long = eq-eqb (length spare) 16 h.long in
+      let long = eq-eqb (length spare.seed) 16 h.long in
       let state = c.state in
       let service = c.service in
       rw (wide, long, state, service)
   parted_is Sch spare c h =
-      let long = eq-eqb (length spare) 16 h.long in
+      let long = eq-eqb (length spare.seed) 16 h.long in
       let state = c.state in
       let service = c.service in
       rw (wide, long, state, service)

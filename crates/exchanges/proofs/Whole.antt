@@ -1,12 +1,12 @@
 -- What specs/ claims of exchanges, whole.
 use Rattle.exchanges.specs.Exchanges.{Undisturbed}
-use Rattle.exchanges.proofs.Activations.{kinds_serial_free, new_fresh, some_ready, link_succeeds, secret_succeeds}
+use Rattle.exchanges.proofs.Activations.{kinds_fit, new_fresh, some_ready, link_succeeds, secret_succeeds}
 use Rattle.exchanges.proofs.Records.{record_passes, records_pass}
 use Rattle.exchanges.proofs.Ends.{talk_succeeds, parting_succeeds, link_ends, secret_ends}
 
 pub undisturbed_succeeds : Undisturbed
 undisturbed_succeeds = record {
-  serials_free = kinds_serial_free;
+  kinds_fit = kinds_fit;
   news_fresh = new_fresh;
   some_ready = some_ready;
   links = link_succeeds;

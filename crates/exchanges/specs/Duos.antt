@@ -6,7 +6,7 @@ use Rattle.suite.specs.Schemes.{Scheme}
 use Rattle.protocol.specs.declared.refusals.Refusal.{Refusal}
 use Rattle.protocol.specs.declared.refusals.Refusal.TheVariants.{WrongState}
 use Rattle.protocol.specs.declared.outcomes.Outcome.{Outcome}
-use Rattle.protocol.specs.Models.{Model, fresh}
+use Rattle.protocol.specs.Models.{Model, Ancillary, fresh}
 use Rattle.protocol.specs.Calls.{Call, invoke, send, retrieve_data, terminate, frame, turn}
 use Rattle.histories.specs.Histories.{History, entered}
 
@@ -38,13 +38,14 @@ abbrev pub last_written : History → List ℕ
 last_written [] = []
 last_written (e ∷ h) = e.written
 
--- two suites, the two peers' seeds, and the seed and the room for a reply that go with every other frame
+-- two suites, the seed that the one invokes with, what goes beside the first frame to the other and what beside every other frame, and the room
+-- for a reply
 pub record Meeting : Type 0 where
   pub mine : Meaning
   pub theirs : Meaning
   pub seed : List ℕ
-  pub answering : List ℕ
-  pub spare : List ℕ
+  pub answering : Ancillary
+  pub spare : Ancillary
   pub room : ℕ
 
 -- the last bytes that the peer wrote, passed on

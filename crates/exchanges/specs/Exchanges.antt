@@ -6,26 +6,26 @@ use Rattle.frame.specs.declared.types.Service.TheVariants.{Sse, Sch}
 use Rattle.suite.specs.declared.types.Role.{Role}
 use Rattle.suite.specs.declared.types.Role.TheVariants.{Sender, Recipient}
 use Rattle.suite.specs.declared.types.KeyKind.TheVariants.{LinkKey}
-use Rattle.suite.specs.Meanings.{Meaning, Bytes, Bytes16, WellFormed, value_in}
-use Rattle.suite.specs.Schemes.{Scheme, Lawful}
+use Rattle.suite.specs.Meanings.{Meaning, Keyring, Bytes, Bytes16, WellFormed, value_in}
+use Rattle.suite.specs.Schemes.{Scheme, Under, Lawful}
 use Rattle.suite_of.specs.Kinds.{Functions, scheme_of}
 use Rattle.protocol.specs.declared.states.State.{State}
 use Rattle.protocol.specs.declared.states.State.TheVariants.{Idle, ConfirmedSse, ConfirmedSch}
 use Rattle.protocol.specs.Models.{Model, fresh}
-use Rattle.protocol.specs.Calls.{Call, send, retrieve_secret, turn}
-use Rattle.histories.specs.Histories.{History, Fresh, GivenBytes, after, history, confirms, answers, sent, handed}
+use Rattle.protocol.specs.Calls.{Call, GivenBytes, send, retrieve_secret, turn}
+use Rattle.histories.specs.Histories.{History, Fresh, after, history, confirms, answers, sent, handed}
 use Rattle.histories.specs.Sessions.{encs, OnlyCopies, InSession}
 use Rattle.exchanges.specs.Duos.{End, Duo, called, last_answer, last_written, Meeting, hears, activated, Line, here, there, turned, passed, talked, said_here, said_there, parted}
 
--- What is asked of a kind of suite beyond its laws: check values and link keys depend on no serial. Two peers may have given their keys
--- different serials, and are to come to the same.
-pub record SerialFree (s : Scheme) : Type 0 where
-  pub checks : (root value : List ℕ) (serial serial' role : ℕ) → s.check_of root serial value role ≡ s.check_of root serial' value role
-  pub links : (root value : List ℕ) (serial serial' link link' : ℕ) → s.link_of root serial value link ≡ s.link_of root serial' value link'
+-- What is asked of a kind of suite beyond its laws: under one root, check values and link keys depend on the value of the shared secret alone,
+-- whatever serials and other keys the suites have. Two peers may have made different keys before, and are to come to the same.
+pub record OfRootAndValue (s : Scheme) : Type 0 where
+  pub checks : (root : List ℕ) (k k' : Keyring) (value : List ℕ) (serial serial' role : ℕ) → Under root k → Under root k' → s.check_of k serial value role ≡ s.check_of k' serial' value role
+  pub links : (root : List ℕ) (k k' : Keyring) (value : List ℕ) (serial serial' : ℕ) → Under root k → Under root k' → s.link_of k serial value ≡ s.link_of k' serial' value
 
--- so it is with every kind that computes of values alone
-abbrev pub KindsSerialFree : Type 0
-KindsSerialFree = (k : Functions) → SerialFree (scheme_of k)
+-- so it is with every kind that computes of root and values alone
+abbrev pub KindsOfRootAndValue : Type 0
+KindsOfRootAndValue = (k : Functions) → OfRootAndValue (scheme_of k)
 
 -- a new entity over a suite without keys is fresh, so that every promise holds of its runs
 abbrev pub NewIsFresh : Type 0
@@ -48,8 +48,8 @@ pub record Ready (service : Service) (x : Meeting) : Type 0 where
   pub mine_left : x.mine.newest + keys_for service ≤ x.mine.last
   pub theirs_left : x.theirs.newest + keys_for service ≤ x.theirs.last
   pub seed_is : Bytes16 x.seed
-  pub answering_is : Bytes16 x.answering
-  pub spare_is : Bytes16 x.spare
+  pub answering_is : Bytes16 x.answering.seed
+  pub spare_is : Bytes16 x.spare.seed
   pub enough : 255 ≤ x.room
 
 -- the other role
@@ -117,7 +117,7 @@ pub record Linked (s : Scheme) (x : Meeting) (d : Duo) : Type 0 where
 
 -- any two entities that are ready are linked
 abbrev pub LinkSucceeds : Type 0
-LinkSucceeds = (s : Scheme) → Lawful s → SerialFree s → (x : Meeting) → Ready Sch x → Linked s x (activated s Sch x)
+LinkSucceeds = (s : Scheme) → Lawful s → OfRootAndValue s → (x : Meeting) → Ready Sch x → Linked s x (activated s Sch x)
 
 -- both in Confirmed_SSE with confirmation 1, and both users retrieve the same sixteen bytes
 pub record Shared (s : Scheme) (d : Duo) (room : ℕ) : Type 0 where
@@ -132,7 +132,7 @@ pub record Shared (s : Scheme) (d : Duo) (room : ℕ) : Type 0 where
 
 -- or come to share a secret
 abbrev pub SecretSucceeds : Type 0
-SecretSucceeds = (s : Scheme) → Lawful s → SerialFree s → (x : Meeting) → Ready Sse x →
+SecretSucceeds = (s : Scheme) → Lawful s → OfRootAndValue s → (x : Meeting) → Ready Sse x →
     (room : ℕ) → 16 ≤ room → Shared s (activated s Sse x) room
 
 -- Records.
@@ -159,7 +159,7 @@ pub record Arrives (s : Scheme) (x : Meeting) (number : ℕ) (d : Duo) (plain : 
 
 -- two matched sessions hand over one record
 abbrev pub RecordPasses : Type 0
-RecordPasses = (s : Scheme) → Lawful s → (x : Meeting) → Bytes16 x.spare → 255 ≤ x.room →
+RecordPasses = (s : Scheme) → Lawful s → (x : Meeting) → Bytes16 x.spare.seed → 255 ≤ x.room →
     (number : ℕ) (d : Duo) → s.first ≤ number → number < s.final → Matched number d → (plain : List ℕ) → Fit plain → Arrives s x number d plain
 
 -- between d and e these were sent and handed over, each to the other's user, all of them and in their order
@@ -171,7 +171,7 @@ pub record HandedOver (d e : Duo) (talk : List Line) : Type 0 where
 
 -- two matched sessions hand over any records, as far as the numbers reach, and stay matched
 abbrev pub RecordsPass : Type 0
-RecordsPass = (s : Scheme) → Lawful s → (x : Meeting) → Bytes16 x.spare → 255 ≤ x.room →
+RecordsPass = (s : Scheme) → Lawful s → (x : Meeting) → Bytes16 x.spare.seed → 255 ≤ x.room →
     (number : ℕ) (d : Duo) → s.first ≤ number → Matched number d → (talk : List Line) → AllFit talk → number + length talk ≤ s.final →
     Matched (number + length talk) (talked s x d talk) × HandedOver d (talked s x d talk) talk
 
@@ -185,7 +185,7 @@ pub record AllArrives (s : Scheme) (x : Meeting) (d : Duo) (talk : List Line) : 
 
 -- so it is with any talk of two entities that were ready
 abbrev pub TalkSucceeds : Type 0
-TalkSucceeds = (s : Scheme) → Lawful s → SerialFree s → (x : Meeting) → Ready Sch x →
+TalkSucceeds = (s : Scheme) → Lawful s → OfRootAndValue s → (x : Meeting) → Ready Sch x →
     (talk : List Line) → AllFit talk → s.first + length talk ≤ s.final → AllArrives s x (talked s x (activated s Sch x) talk) talk
 
 -- The end.
@@ -199,7 +199,7 @@ pub record Parted (d : Duo) : Type 0 where
 
 -- two entities confirmed in one service part
 abbrev pub PartingSucceeds : Type 0
-PartingSucceeds = (s : Scheme) (x : Meeting) → Bytes16 x.spare → 255 ≤ x.room →
+PartingSucceeds = (s : Scheme) (x : Meeting) → Bytes16 x.spare.seed → 255 ≤ x.room →
     (service : Service) (d : Duo) → Confirmed service d.one.model → Confirmed service d.other.model → Parted (parted s x d)
 
 -- neither suite has a live key
@@ -215,12 +215,12 @@ pub record EndsWell (s : Scheme) (x : Meeting) (d : Duo) : Type 0 where
 
 -- a link after any talk
 abbrev pub LinkEnds : Type 0
-LinkEnds = (s : Scheme) → Lawful s → SerialFree s → (x : Meeting) → Ready Sch x →
+LinkEnds = (s : Scheme) → Lawful s → OfRootAndValue s → (x : Meeting) → Ready Sch x →
     (talk : List Line) → AllFit talk → s.first + length talk ≤ s.final → EndsWell s x (talked s x (activated s Sch x) talk)
 
 -- and a shared secret
 abbrev pub SecretEnds : Type 0
-SecretEnds = (s : Scheme) → Lawful s → SerialFree s → (x : Meeting) → Ready Sse x → EndsWell s x (activated s Sse x)
+SecretEnds = (s : Scheme) → Lawful s → OfRootAndValue s → (x : Meeting) → Ready Sse x → EndsWell s x (activated s Sse x)
 
 -- there are entities ready for a link
 abbrev pub SomeReady : Type 0
@@ -228,7 +228,7 @@ SomeReady = (x : Meeting) × Ready Sch x
 
 -- all of it together
 pub record Undisturbed : Type 0 where
-  pub serials_free : KindsSerialFree
+  pub kinds_fit : KindsOfRootAndValue
   pub news_fresh : NewIsFresh
   pub some_ready : SomeReady
   pub links : LinkSucceeds
