@@ -9,7 +9,7 @@ use Rattle.protocol.specs.declared.outcomes.Outcome.{Outcome}
 use Rattle.protocol.specs.declared.faults.Fault.{Fault}
 use Rattle.protocol.specs.Numbers.{state_mark, confirmation_number, refusal_number, cause_code}
 use Rattle.protocol.specs.Outcomes.{no_keys}
-use Rattle.protocol.specs.Models.{Model, fresh, no_seed}
+use Rattle.protocol.specs.Models.{Model, Ancillary, fresh, no_seed}
 use Rattle.protocol.specs.Calls.{Turn, Call, invoke, send, retrieve_data, frame, turn}
 
 -- What an answer says.
@@ -56,9 +56,13 @@ new = entity 4294967295
 abbrev pub call : Model → Call → Turn
 call m c = turn bench_scheme m c
 
+-- what goes beside a frame
+abbrev pub beside : List ℕ → Ancillary
+beside seed = record { seed = seed }
+
 -- a frame, with a seed of zeros
 abbrev pub hears : Model → List ℕ → Turn
-hears m bytes = call m (frame bytes no_seed 255)
+hears m bytes = call m (frame bytes (beside no_seed) 255)
 
 -- An activation for SCH, call by call: the Sender's and the Recipient's.
 
@@ -66,7 +70,7 @@ abbrev pub act_req : Turn
 act_req = call new (invoke Sch 0xF0 ones 255)
 
 abbrev pub act_res : Turn
-act_res = call new (frame act_req.reply twos 255)
+act_res = call new (frame act_req.reply (beside twos) 255)
 
 abbrev pub vfy_req : Turn
 vfy_req = hears act_req.model act_res.reply
@@ -104,7 +108,7 @@ sent_at number = call (record linked.model { number = number }) (send (0x41 ∷ 
 -- A Recipient whose suite makes one key, and so no link key.
 
 abbrev pub lone : Turn
-lone = call (entity 1) (frame act_req.reply twos 255)
+lone = call (entity 1) (frame act_req.reply (beside twos) 255)
 
 abbrev pub keyless : Turn
 keyless = hears lone.model vfy_req.reply
