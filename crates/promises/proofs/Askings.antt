@@ -98,13 +98,13 @@ with_secret EstablishedRecipient k e = cc
 with_secret ConfirmedSse k e = cc
 with_secret ConfirmedSch k e = cc
 
-in_sch : (state : State) → has_link state ≡ true → state ≡ ConfirmedSch
-in_sch Idle e = absurd (cc)
-in_sch Select e = absurd (cc)
-in_sch EstablishedSender e = absurd (cc)
-in_sch EstablishedRecipient e = absurd (cc)
-in_sch ConfirmedSse e = absurd (cc)
-in_sch ConfirmedSch e = refl
+is_sch : (state : State) → has_link state ≡ true → state ≡ ConfirmedSch
+is_sch Idle e = absurd (cc)
+is_sch Select e = absurd (cc)
+is_sch EstablishedSender e = absurd (cc)
+is_sch EstablishedRecipient e = absurd (cc)
+is_sch ConfirmedSse e = absurd (cc)
+is_sch ConfirmedSch e = refl
 
 alone_live : (n : ℕ) (v : List ℕ) → is_live (secret_key n v ∷ []) n ≡ true
 alone_live n v = or_left (eqb n n) false (eq-eqb n n refl)
@@ -125,7 +125,7 @@ module _ (s : Scheme) (law : Lawful s) where
   serves_none : (root : List ℕ) (last n : ℕ) {state : State} {service : Service} {role : Role} {seed : List ℕ} {number : ℕ} → Base root last n → state ≢ ConfirmedSch → has_secret state ≡ false → (state ≡ Select → length seed ≡ 16) → AsksWell s (unlinked (none_live root last n) state service role seed number 0)
   serves_none root last n b unlinked' none kept = record {
     formed = none_formed root last n b;
-    live = record { secret = λ some. clash _ none some; link = λ e. absurd (unlinked' (in_sch _ e)) };
+    live = record { secret = λ some. clash _ none some; link = λ e. absurd (unlinked' (is_sch _ e)) };
     offer = λ seed room e h. offer_asked s (none_live root last n) seed room e h;
     agreement = λ seed offer role e. agreement_asked s (none_live root last n) seed offer role e;
     kept_seed = kept;
@@ -139,7 +139,7 @@ module _ (s : Scheme) (law : Lawful s) where
   serves_secret : (root : List ℕ) (last n : ℕ) (v : List ℕ) {state : State} {service : Service} {role : Role} {seed : List ℕ} {number : ℕ} → SecretOnly state → One root last n v → AsksWell s (unlinked (one_live root last n v) state service role seed number n)
   serves_secret root last n v k one = record {
     formed = one_formed root last n v one;
-    live = record { secret = λ _. ap is_some (secret_there n v []); link = λ e. absurd (below_link k (in_sch _ e)) };
+    live = record { secret = λ _. ap is_some (secret_there n v []); link = λ e. absurd (below_link k (is_sch _ e)) };
     offer = λ seed room e h. offer_asked s (one_live root last n v) seed room e h;
     agreement = λ seed offer role e. agreement_asked s (one_live root last n v) seed offer role e;
     kept_seed = λ e. absurd (above_select k e);

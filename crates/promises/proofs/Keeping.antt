@@ -19,18 +19,18 @@ use Rattle.promises.specs.Promises.{HandedInSession, SessionsTold, Kept, EveryRu
 use Rattle.promises.proofs.Cases.{both, clash}
 use Rattle.promises.proofs.Books.{within_less}
 use Rattle.promises.proofs.Forms.{link_there}
-use Rattle.promises.proofs.Sounds.{Sound, at_idle, at_select, at_secret, at_sch, has_link}
+use Rattle.promises.proofs.Sounds.{Sound, at_idle, at_select, at_secret, at_sch, in_sch}
 use Rattle.promises.proofs.Turns.{not_idle, not_linked}
 use Rattle.promises.proofs.Runs.{Fits, Holds, holds, orderly}
 use Rattle.promises.proofs.Tellings.{Orderly, read_off, none_read, runs_told, run_above, over_told, Quiet, no_others}
 use Rattle.promises.proofs.Askings.{asks_well}
 
 -- only in Confirmed_SCH is data handed out
-handed_at : (s : Scheme) (m : Model) (c : Call) → handing (entered c (turn s m c)) ≡ true → has_link m ≡ true
+handed_at : (s : Scheme) (m : Model) (c : Call) → handing (entered c (turn s m c)) ≡ true → in_sch m ≡ true
 handed_at s m (invoke service pid seed room) e = absurd (cc)
 handed_at s m (send plain room) e = absurd (cc)
 handed_at s m (retrieve_data room) e =
-    elim (cases_Bool (has_link m)) [
+    elim (cases_Bool (in_sch m)) [
       | inl t ↦ t
       | inr o ↦
           let shut : handing (entered (retrieve_data room) (turn s m (retrieve_data room))) ≡ false = rw o in
@@ -51,12 +51,12 @@ none_given true = refl
 none_given false = refl
 
 -- only in Confirmed_SCH is data sent
-unsent_at : (s : Scheme) (m : Model) (c : Call) → has_link m ≡ false → sent_in (entered c (turn s m c)) ≡ []
+unsent_at : (s : Scheme) (m : Model) (c : Call) → in_sch m ≡ false → sent_in (entered c (turn s m c)) ≡ []
 unsent_at s m (invoke service pid seed room) o = none_given (confirms 2 (turn s m (invoke service pid seed room)).answer)
 unsent_at s m (send plain room) o =
     both (no_room room) (λ (t : Turn). cond (confirms 2 t.answer) (plain ∷ []) [] ≡ [])
     (λ _. refl)
-    (λ _. both (not (has_link m)) (λ (t : Turn). cond (confirms 2 t.answer) (plain ∷ []) [] ≡ []) (λ _. refl) (λ f. clash (not (has_link m)) f (ap not o)))
+    (λ _. both (not (in_sch m)) (λ (t : Turn). cond (confirms 2 t.answer) (plain ∷ []) [] ≡ []) (λ _. refl) (λ f. clash (not (in_sch m)) f (ap not o)))
 unsent_at s m (retrieve_data room) o = none_given (confirms 2 (turn s m (retrieve_data room)).answer)
 unsent_at s m (retrieve_secret room) o = none_given (confirms 2 (turn s m (retrieve_secret room)).answer)
 unsent_at s m (terminate room) o = none_given (confirms 2 (turn s m (terminate room)).answer)
@@ -64,9 +64,9 @@ unsent_at s m (frame bytes beside room) o = none_given (confirms 2 (turn s m (fr
 unsent_at s m release o = none_given (confirms 2 (turn s m release).answer)
 
 -- where no session is read off there is no link key
-unlinked_at : (s : Scheme) {m : Model} {h : History} → Holds s m h → Orderly h → link_in h ≡ 0 → has_link m ≡ false
+unlinked_at : (s : Scheme) {m : Model} {h : History} → Holds s m h → Orderly h → link_in h ≡ 0 → in_sch m ≡ false
 unlinked_at s {m} {h} H o z =
-    elim (cases_Bool (has_link m)) [
+    elim (cases_Bool (in_sch m)) [
       | inl t ↦
           let x = H.some t in
           let pos = run_above x.0 x.1.1 in
@@ -76,11 +76,11 @@ unlinked_at s {m} {h} H o z =
     ]
 
 -- with no link key nothing is sent or handed out
-quiet_at : (s : Scheme) (m : Model) (c : Call) → has_link m ≡ false → charged_in 0 (entered c (turn s m c)) ≡ []
+quiet_at : (s : Scheme) (m : Model) (c : Call) → in_sch m ≡ false → charged_in 0 (entered c (turn s m c)) ≡ []
 quiet_at s m c o =
     let e : Entry = entered c (turn s m c) in
     let unsent : sent_in e ≡ [] = unsent_at s m c o in
-    let kept : handing e ≡ false = elim (cases_Bool (handing e)) [ inl t ↦ clash (has_link m) o (handed_at s m c t) | inr f ↦ f ] in
+    let kept : handing e ≡ false = elim (cases_Bool (handing e)) [ inl t ↦ clash (in_sch m) o (handed_at s m c t) | inr f ↦ f ] in
     rw (unsent, kept)
 
 -- so it is in every call of a run
@@ -99,7 +99,7 @@ confirmed_at EstablishedRecipient e = absurd (cc)
 confirmed_at ConfirmedSse e = absurd (cc)
 confirmed_at ConfirmedSch e = refl
 
-linked_at : (m : Model) → m.state ≡ ConfirmedSch → has_link m ≡ true
+linked_at : (m : Model) → m.state ≡ ConfirmedSch → in_sch m ≡ true
 linked_at m e = ap (λ z. in_state (record m { state = z }) ConfirmedSch) e
 
 idle_empty : (s : Scheme) {m : Model} → Sound s m → m.state ≡ Idle → m.means.live ≡ []
@@ -115,7 +115,7 @@ number_below s (at_secret state k one) e = clash _ (not_linked k) (ap (λ z. eqb
 number_below s (at_sch h lo hi) e = hi
 
 -- the link key of a session that runs is live
-key_at : (s : Scheme) {m : Model} → Sound s m → has_link m ≡ true → (value : List ℕ) × (value_in m.means.live LinkKey m.link ≡ Some value)
+key_at : (s : Scheme) {m : Model} → Sound s m → in_sch m ≡ true → (value : List ℕ) × (value_in m.means.live LinkKey m.link ≡ Some value)
 key_at s (at_idle b) e = absurd (cc)
 key_at s (at_select b h) e = absurd (cc)
 key_at s (at_secret state k one) e = clash _ (not_linked k) e

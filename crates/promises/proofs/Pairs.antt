@@ -17,7 +17,7 @@ use Rattle.promises.proofs.Cases.{both, clash}
 use Rattle.promises.proofs.Forms.{role_ok}
 use Rattle.promises.proofs.Ledgers.{End, Ledger}
 use Rattle.promises.proofs.Duos.{in_order, no_gap}
-use Rattle.promises.proofs.Sounds.{has_link, end_of}
+use Rattle.promises.proofs.Sounds.{in_sch, end_of}
 use Rattle.promises.proofs.Runs.{holds}
 use Rattle.promises.proofs.Askings.{asks_well}
 
@@ -57,14 +57,14 @@ Spares t = destroyed_in t.answer ≡ []
 send_spares : (s : Scheme) (m : Model) (plain : List ℕ) (room : ℕ) → Spares (turn s m (send plain room))
 send_spares s m plain room =
     both (no_room room) Spares (λ _. refl)
-    (λ _. both (not (has_link m)) Spares (λ _. refl)
+    (λ _. both (not (in_sch m)) Spares (λ _. refl)
     (λ _. both (not (record_length (length plain))) Spares (λ _. refl)
     (λ _. both (leb s.final m.number) Spares (λ _. refl)
     (λ _. refl))))
 
 data_spares : (s : Scheme) (m : Model) (room : ℕ) → Spares (turn s m (retrieve_data room))
 data_spares s m room =
-    both (not (has_link m)) Spares (λ _. refl)
+    both (not (in_sch m)) Spares (λ _. refl)
     (λ _. both (is_empty m.held) Spares (λ _. refl)
     (λ _. both (ltb room (length m.held)) Spares (λ _. refl) (λ _. refl)))
 

@@ -20,7 +20,7 @@ use Rattle.protocol.specs.Steps.{said_by, is_empty, record_length, sealed_record
 use Rattle.protocol.specs.Calls.{Call, GivenBytes, invoke, send, retrieve_data, retrieve_secret, terminate, frame, release, turn, done, in_state, first_byte}
 use Rattle.promises.proofs.Cases.{both, clash}
 use Rattle.promises.proofs.Ledgers.{sends, gives}
-use Rattle.promises.proofs.Sounds.{Sound, at_idle, at_select, at_secret, at_sch, has_link, Did, outside, inside}
+use Rattle.promises.proofs.Sounds.{Sound, at_idle, at_select, at_secret, at_sch, in_sch, Did, outside, inside}
 use Rattle.promises.proofs.Turns.{silent, unmoved, not_linked, not_idle, did_refused, did_ended}
 use Rattle.promises.proofs.Messages.{did_taken}
 
@@ -51,7 +51,7 @@ module _ (s : Scheme) where
       (λ _. invoked c service seed _ (sixteen seed long given) S (not-false (in_state m st.Idle) idle)))))
 
   -- in a session a record is sealed
-  did_seal : (plain : List ℕ) (room : ℕ) {m : Model} → Sound s m → has_link m ≡ true → record_length (length plain) ≡ true → Bytes plain → m.number < s.final
+  did_seal : (plain : List ℕ) (room : ℕ) {m : Model} → Sound s m → in_sch m ≡ true → record_length (length plain) ≡ true → Bytes plain → m.number < s.final
       → Did s (send plain room) m (done (record m { number = m.number + 1 }) conf.DataSent (said_by Sch (enc (sealed_record s m (m.number + 1) plain))))
   did_seal plain room (at_idle base) up full given below = clash false refl up
   did_seal plain room (at_select base h) up full given below = clash false refl up
@@ -71,13 +71,13 @@ module _ (s : Scheme) where
   did_send plain room given {m} S =
       let c = send plain room in
       both (no_room room) (Did s c m) (λ _. did_refused s c _ S)
-      (λ _. both (not (has_link m)) (Did s c m) (λ _. did_refused s c _ S)
+      (λ _. both (not (in_sch m)) (Did s c m) (λ _. did_refused s c _ S)
       (λ up. both (not (record_length (length plain))) (Did s c m) (λ _. did_refused s c _ S)
       (λ full. both (leb s.final m.number) (Did s c m) (λ _. did_refused s c _ S)
-      (λ below. did_seal plain room S (not-false (has_link m) up) (not-false (record_length (length plain)) full) given (leb-false s.final m.number below)))))
+      (λ below. did_seal plain room S (not-false (in_sch m) up) (not-false (record_length (length plain)) full) given (leb-false s.final m.number below)))))
 
   -- in a session the data held is handed out
-  did_give : (room : ℕ) {m : Model} → Sound s m → has_link m ≡ true → is_empty m.held ≡ false → Did s (retrieve_data room) m (done (record m { held = [] }) conf.Nothing m.held)
+  did_give : (room : ℕ) {m : Model} → Sound s m → in_sch m ≡ true → is_empty m.held ≡ false → Did s (retrieve_data room) m (done (record m { held = [] }) conf.Nothing m.held)
   did_give room (at_idle base) up full = clash false refl up
   did_give room (at_select base h) up full = clash false refl up
   did_give room (at_secret state k one) up full = clash _ (not_linked k) up
@@ -86,12 +86,12 @@ module _ (s : Scheme) where
   did_data : (room : ℕ) {m : Model} → Sound s m → let c = retrieve_data room in Did s c m (turn s m c)
   did_data room {m} S =
       let c = retrieve_data room in
-      both (not (has_link m)) (Did s c m) (λ _. did_refused s c _ S)
+      both (not (in_sch m)) (Did s c m) (λ _. did_refused s c _ S)
       (λ up. both (is_empty m.held) (Did s c m) (λ _. did_refused s c _ S)
       (λ full. both (ltb room (length m.held)) (Did s c m) (λ _. did_refused s c _ S)
-      (λ _. did_give room S (not-false (has_link m) up) full)))
+      (λ _. did_give room S (not-false (in_sch m) up) full)))
 
-  other_state : (m : Model) → in_state m st.ConfirmedSse ≡ true → has_link m ≡ false
+  other_state : (m : Model) → in_state m st.ConfirmedSse ≡ true → in_sch m ≡ false
   other_state m e = let mark : state_mark m.state ≡ 4 = eqb-true (state_mark m.state) 4 e in ne_eqb (state_mark m.state) 5 (λ x. omega arith)
 
   did_secret : (room : ℕ) {m : Model} → Sound s m → let c = retrieve_secret room in Did s c m (turn s m c)

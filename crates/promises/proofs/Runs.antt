@@ -13,13 +13,13 @@ use Rattle.promises.proofs.Cases.{clash}
 use Rattle.promises.proofs.Books.{Books, no_books, books_made, books_same, books_cleared, Clears}
 use Rattle.promises.proofs.Forms.{base_of}
 use Rattle.promises.proofs.Ledgers.{End, Act, Ledger, start, more}
-use Rattle.promises.proofs.Sounds.{Sound, at_idle, has_link, end_of, Silent, MakesNext, Did, outside, inside, agrees, links, ends}
+use Rattle.promises.proofs.Sounds.{Sound, at_idle, in_sch, end_of, Silent, MakesNext, Did, outside, inside, agrees, links, ends}
 use Rattle.promises.proofs.Requests.{did}
 use Rattle.promises.proofs.Tellings.{Orderly}
 
 -- what holds of a session that runs
 pub record Fits (s : Scheme) (m : Model) (n : ℕ) (since : History) : Type 0 where
-  pub linked : has_link m ≡ true
+  pub linked : in_sch m ≡ true
   pub key : n ≡ m.link
   pub number : m.number ≡ (s.first + length (sent since)) + length (taken since)
   pub ledger : (w : List ℕ) → value_in m.means.live LinkKey m.link ≡ Some w → Ledger s w (end_of m) since m.number m.held
@@ -29,7 +29,7 @@ pub record Holds (s : Scheme) (m : Model) (h : History) : Type 0 where
   pub sound : Sound s m
   pub books : Books m.means.newest (serials m.means) (made h) (destroyed h)
   pub all : (n : ℕ) (since : History) → Runs n h since → Fits s m n since
-  pub some : has_link m ≡ true → Running h
+  pub some : in_sch m ≡ true → Running h
 
 zero_start : {X : Type 0} (n k : ℕ) → 0 < n → k ≡ n → k ≡ 0 → X
 zero_start n k p e z = absurd (omega arith)
@@ -41,11 +41,11 @@ module _ (s : Scheme) (c : Call) {m : Model} {h : History} (H : Holds s m h) (t 
   abbrev now : Entry
   now = entered c t
 
-  none_ran : has_link m ≡ false → {X : Type 0} → (n : ℕ) (since : History) → Runs n h since → X
-  none_ran o n since r = clash (has_link m) o (H.all n since r).linked
+  none_ran : in_sch m ≡ false → {X : Type 0} → (n : ℕ) (since : History) → Runs n h since → X
+  none_ran o n since r = clash (in_sch m) o (H.all n since r).linked
 
   -- where no session ran and none starts, none runs
-  fits_none : has_link m ≡ false → started_by t.answer ≡ 0 → (n : ℕ) (since : History) → Runs n (now ∷ h) since → Fits s t.model n since
+  fits_none : in_sch m ≡ false → started_by t.answer ≡ 0 → (n : ℕ) (since : History) → Runs n (now ∷ h) since → Fits s t.model n since
   fits_none o z n since (starts pos q) = zero_start n _ pos q z
   fits_none o z n since (goes_on r k) = none_ran o n _ r
 
@@ -59,7 +59,7 @@ module _ (s : Scheme) (c : Call) {m : Model} {h : History} (H : Holds s m h) (t 
       let new : Ledger s w (end_of m) (now ∷ since) t.model.number t.model.held = more (was w q') (act w q') in
       subst (λ (z : End). Ledger s w z (now ∷ since) t.model.number t.model.held) (sym ee) new
 
-  fits_inside : has_link t.model ≡ true → t.model.means ≡ m.means → t.model.link ≡ m.link → end_of t.model ≡ end_of m → started_by t.answer ≡ 0 → t.model.number ≡ (m.number + length (sent_in now)) + length (taken_in now)
+  fits_inside : in_sch t.model ≡ true → t.model.means ≡ m.means → t.model.link ≡ m.link → end_of t.model ≡ end_of m → started_by t.answer ≡ 0 → t.model.number ≡ (m.number + length (sent_in now)) + length (taken_in now)
       → ((w : List ℕ) → value_in m.means.live LinkKey m.link ≡ Some w → Act s w (end_of m) now m.number m.held t.model.number t.model.held)
       → (n : ℕ) (since : History) → Runs n (now ∷ h) since → Fits s t.model n since
   fits_inside a em el ee z num act n since (starts pos q) = zero_start n _ pos q z
@@ -76,7 +76,7 @@ module _ (s : Scheme) (c : Call) {m : Model} {h : History} (H : Holds s m h) (t 
   some_inside d (n, (since, r)) = (n, (now ∷ since, goes_on r (ap (member n) d)))
 
   -- a session starts
-  fits_link : has_link m ≡ false → has_link t.model ≡ true → started_by t.answer ≡ m.means.newest + 1 → t.model.link ≡ m.means.newest + 1 → t.model.number ≡ s.first → t.model.held ≡ [] → (n : ℕ) (since : History) → Runs n (now ∷ h) since → Fits s t.model n since
+  fits_link : in_sch m ≡ false → in_sch t.model ≡ true → started_by t.answer ≡ m.means.newest + 1 → t.model.link ≡ m.means.newest + 1 → t.model.number ≡ s.first → t.model.held ≡ [] → (n : ℕ) (since : History) → Runs n (now ∷ h) since → Fits s t.model n since
   fits_link o a z l num nh n since (starts pos q) = record {
     linked = a;
     key = sym q ∙ z ∙ sym l;
@@ -86,7 +86,7 @@ module _ (s : Scheme) (c : Call) {m : Model} {h : History} (H : Holds s m h) (t 
   fits_link o a z l num nh n since (goes_on r k) = none_ran o n _ r
 
   -- the session that ran is over
-  fits_ends : started_by t.answer ≡ 0 → (has_link m ≡ true → member m.link (destroyed_in t.answer) ≡ true) → (n : ℕ) (since : History) → Runs n (now ∷ h) since → Fits s t.model n since
+  fits_ends : started_by t.answer ≡ 0 → (in_sch m ≡ true → member m.link (destroyed_in t.answer) ≡ true) → (n : ℕ) (since : History) → Runs n (now ∷ h) since → Fits s t.model n since
   fits_ends z d n since (starts pos q) = zero_start n _ pos q z
   fits_ends z d n since (goes_on {since = before} r k) =
       let was = H.all n before r in
@@ -137,7 +137,7 @@ module _ (s : Scheme) (law : Lawful s) (m : Model) where
   holds_first : Fresh m → Holds s m []
   holds_first f =
       let books : Books m.means.newest (serials m.means) [] [] = rw f.no_live (no_books _) in
-      record { sound = sound_first f; books = books; all = λ n since r. not_yet r; some = λ x. clash (has_link m) (ap (λ z. in_state (record m { state = z }) ConfirmedSch) f.idle) x }
+      record { sound = sound_first f; books = books; all = λ n since r. not_yet r; some = λ x. clash (in_sch m) (ap (λ z. in_state (record m { state = z }) ConfirmedSch) f.idle) x }
 
   pub holds : Fresh m → (calls : List Call) → AllByRecursion GivenBytes calls → Holds s (after s m calls) (history s m calls)
   holds f [] given = holds_first f

@@ -40,9 +40,9 @@ pub data Sound (s : Scheme) : Model → Type 0 where
   at_secret : {root : List ℕ} {last n : ℕ} {v : List ℕ} {service : Service} {role : Role} {seed : List ℕ} {number : ℕ} (state : State) → SecretOnly state → One root last n v → Sound s (unlinked (one_live root last n v) state service role seed number n)
   at_sch : {root : List ℕ} {last n : ℕ} {v w : List ℕ} {role : Role} {seed : List ℕ} {number : ℕ} {held : List ℕ} → Two root last n v w → s.first ≤ number → number ≤ s.final → Sound s (in_link (two_live root last n v w) role seed number held n)
 
--- it has a link key
-abbrev pub has_link : Model → Bool
-has_link m = in_state m ConfirmedSch
+-- it is in Confirmed_SCH, and so has a link key
+abbrev pub in_sch : Model → Bool
+in_sch m = in_state m ConfirmedSch
 
 -- its end of the link session
 abbrev pub end_of : Model → End
@@ -64,15 +64,15 @@ pub record MakesNext (m m' : Meaning) (a : Result Outcome Refusal) : Type 0 wher
 -- what one call does to an entity
 pub data Did (s : Scheme) (c : Call) (m : Model) (t : Turn) : Type 0 where
   -- outside a session, no key touched
-  outside : Sound s t.model → t.model.means ≡ m.means → has_link m ≡ false → has_link t.model ≡ false → Silent t.answer → Did s c m t
+  outside : Sound s t.model → t.model.means ≡ m.means → in_sch m ≡ false → in_sch t.model ≡ false → Silent t.answer → Did s c m t
   -- in a session, no key touched
-  inside : Sound s t.model → t.model.means ≡ m.means → has_link m ≡ true → has_link t.model ≡ true → t.model.link ≡ m.link → end_of t.model ≡ end_of m → Silent t.answer
+  inside : Sound s t.model → t.model.means ≡ m.means → in_sch m ≡ true → in_sch t.model ≡ true → t.model.link ≡ m.link → end_of t.model ≡ end_of m → Silent t.answer
       → t.model.number ≡ (m.number + length (sent_in (entered c t))) + length (taken_in (entered c t))
       → ((w : List ℕ) → value_in m.means.live LinkKey m.link ≡ Some w → Act s w (end_of m) (entered c t) m.number m.held t.model.number t.model.held)
       → Did s c m t
   -- a shared secret made
-  agrees : Sound s t.model → has_link m ≡ false → has_link t.model ≡ false → MakesNext m.means t.model.means t.answer → started_by t.answer ≡ 0 → Did s c m t
+  agrees : Sound s t.model → in_sch m ≡ false → in_sch t.model ≡ false → MakesNext m.means t.model.means t.answer → started_by t.answer ≡ 0 → Did s c m t
   -- a link key made: a session starts
-  links : Sound s t.model → has_link m ≡ false → has_link t.model ≡ true → MakesNext m.means t.model.means t.answer → started_by t.answer ≡ m.means.newest + 1 → t.model.link ≡ m.means.newest + 1 → t.model.number ≡ s.first → t.model.held ≡ [] → Did s c m t
+  links : Sound s t.model → in_sch m ≡ false → in_sch t.model ≡ true → MakesNext m.means t.model.means t.answer → started_by t.answer ≡ m.means.newest + 1 → t.model.link ≡ m.means.newest + 1 → t.model.number ≡ s.first → t.model.held ≡ [] → Did s c m t
   -- Idle entered, all keys destroyed
-  ends : Sound s t.model → has_link t.model ≡ false → t.model.means.newest ≡ m.means.newest → serials t.model.means ≡ [] → made_in t.answer ≡ [] → started_by t.answer ≡ 0 → Clears (serials m.means) (destroyed_in t.answer) → (has_link m ≡ true → member m.link (destroyed_in t.answer) ≡ true) → Did s c m t
+  ends : Sound s t.model → in_sch t.model ≡ false → t.model.means.newest ≡ m.means.newest → serials t.model.means ≡ [] → made_in t.answer ≡ [] → started_by t.answer ≡ 0 → Clears (serials m.means) (destroyed_in t.answer) → (in_sch m ≡ true → member m.link (destroyed_in t.answer) ≡ true) → Did s c m t

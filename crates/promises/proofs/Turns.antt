@@ -14,7 +14,7 @@ use Rattle.histories.specs.Histories.{member, listed, hands, made_in, destroyed_
 use Rattle.promises.proofs.Cases.{clash}
 use Rattle.promises.proofs.Books.{Clears, none, one, two}
 use Rattle.promises.proofs.Ledgers.{other}
-use Rattle.promises.proofs.Sounds.{SecretOnly, Sound, at_idle, at_select, at_secret, at_sch, has_link, Silent, Did, outside, inside, ends}
+use Rattle.promises.proofs.Sounds.{SecretOnly, Sound, at_idle, at_select, at_secret, at_sch, in_sch, Silent, Did, outside, inside, ends}
 
 pub silent : {a : Result Outcome Refusal} → made_in a ≡ [] → destroyed_in a ≡ [] → started_by a ≡ 0 → Silent a
 silent p q r = record { makes = p; destroys = q; begins = r }
@@ -34,7 +34,7 @@ none_handed r release = refl
 
 pub did_refused : (s : Scheme) (c : Call) (r : Refusal) {m : Model} → Sound s m → Did s c m (refused m r)
 did_refused s c r {m} S =
-    elim (cases_Bool (has_link m)) [
+    elim (cases_Bool (in_sch m)) [
       | inl t ↦ inside S refl t t refl refl (silent refl refl refl) (unmoved m.number) (λ w e. other refl refl (none_handed r c))
       | inr o ↦ outside S refl o o (silent refl refl refl)
     ]
