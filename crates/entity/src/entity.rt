@@ -4,7 +4,7 @@ ghost use Rattle.protocol.specs.Models.{KeysLive};
 use crate::held::Held;
 use frame::Service;
 use protocol::State;
-use suite::{Role, Suite};
+use suite::{HasMeaning, Role};
 
 mod agreement;
 mod dispatch;
@@ -18,7 +18,7 @@ mod suite_calls;
 mod verification;
 
 /// One end of the link, over its suite. It can be neither copied nor let go, only put away, so that no live key is lost sight of.
-pub struct Entity<S: Suite> {
+pub struct Entity<S: HasMeaning> {
     suite: S,
     state: State,
     // The session's; in Idle, that of the last session.

@@ -2,7 +2,7 @@
 use super::log::Made;
 use super::stopped::Stopped;
 use entity::Entity;
-use replay::{Call, Entry, Record, Way, replay};
+use replay::{Call, Entry, Record, Way, charged, replay};
 use std::alloc::{AllocError, Global};
 use suite::Suite;
 
@@ -36,14 +36,6 @@ fn show_records(rt: &HostRuntime, name: &str, entries: &[Entry]) -> Result<(), S
     Ok(())
 }
 
-// How many records a user was handed.
-fn handed(entries: &[Entry]) -> usize {
-    entries
-        .iter()
-        .filter(|entry| entry.record.is_some_and(|record| record.way == Way::Handed))
-        .count()
-}
-
 // Makes the calls of both logs again on two new entities, and prints what each user sent and was handed. What the handset was handed is
 // charged.
 pub(super) fn bill<S: Suite, T: Suite>(
@@ -58,6 +50,6 @@ pub(super) fn bill<S: Suite, T: Suite>(
     let told = replay(alloc, handset, controller, &one, &other)?;
     show_records(rt, "controller", &told.other)?;
     show_records(rt, "handset", &told.one)?;
-    let charged = handed(&told.one);
+    let charged = charged(&told.one);
     Ok(println!(rt; "  charged: {charged} records")?)
 }

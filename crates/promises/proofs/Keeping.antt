@@ -11,8 +11,8 @@ use Rattle.protocol.specs.declared.states.State.TheVariants.{Idle, Select, Estab
 use Rattle.protocol.specs.Numbers.{state_mark}
 use Rattle.protocol.specs.Models.{Model}
 use Rattle.protocol.specs.Calls.{Call, GivenBytes, invoke, send, retrieve_data, retrieve_secret, terminate, frame, release, Turn, turn, in_state}
-use Rattle.histories.specs.Histories.{Entry, History, Fresh, after, history, entered, Runs, confirms, sent_in, handing}
-use Rattle.histories.specs.Records.{link_in, Over, was_sent, was_handed, charged_in}
+use Rattle.histories.specs.Histories.{Entry, History, Fresh, after, history, entered, Runs, confirms, sent, sent_in, handed, handing}
+use Rattle.histories.specs.Records.{link_in, Over, was_sent, was_handed, charged_in, charges, those}
 use Rattle.histories.specs.Records as over
 use Rattle.histories.specs.Sessions.{InSession, EndedSession, ends, stays, LinkSession}
 use Rattle.promises.specs.Promises.{HandedInSession, SessionsTold, Kept, EveryRun, EverySession}
@@ -182,6 +182,22 @@ module _ (s : Scheme) (law : Lawful s) (m : Model) (f : Fresh m) (n : ℕ) where
       → (value : List ℕ) × LinkSession s m calls n value since
   valued_any calls given since (inl x) = let v = valued calls given since x in (v.0, inl v.1)
   valued_any calls given since (inr x) = let v = valued_over calls given since x in (v.0, inr v.1)
+
+-- a link session runs or is over in the history of its calls
+session_is : (s : Scheme) (m : Model) (n : ℕ) {calls : List Call} {value : List ℕ} {since : History} → EndedSession s m calls n value since
+    → Over n (history s m calls) since
+session_is s m n (ends c x d) = over.ends x.runs d
+session_is s m n (stays c x) = over.stays (session_is s m n x)
+
+-- the records told of a link session are those of its calls
+module _ (s : Scheme) (law : Lawful s) (m : Model) (f : Fresh m) (calls : List Call) (given : AllByRecursion GivenBytes calls) (n : ℕ) (value : List ℕ) (since : History) where
+  pub sent_told : LinkSession s m calls n value since → those n was_sent (charges (history s m calls)) ≡ sent since
+  sent_told (inl x) = (every_run s law m f calls given).told.sent_told n since x.runs
+  sent_told (inr x) = (every_run s law m f calls given).told.sent_over n since (session_is s m n x)
+
+  pub handed_told : LinkSession s m calls n value since → those n was_handed (charges (history s m calls)) ≡ handed since
+  handed_told (inl x) = (every_run s law m f calls given).told.handed_told n since x.runs
+  handed_told (inr x) = (every_run s law m f calls given).told.handed_over n since (session_is s m n x)
 
 pub every_session : EverySession
 every_session s law m f calls given n since x = valued_any s law m f n calls given since x

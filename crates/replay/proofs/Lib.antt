@@ -1,2 +1,4 @@
 mod Replies
 mod Turns
+mod Orders
+mod Counts

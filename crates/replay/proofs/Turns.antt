@@ -1,9 +1,11 @@
 -- One more call of a log.
-use Rattle.std.proofs.Common.{◌≡◌, ℕ, ◌+◌, ◌<◌, List, [], ◌∷◌, ◌++◌, length, take, set, get_or, reverse, refl, sym, ap, ◌∙◌, append_assoc, append-nil, arith, length-take, Result}
+use Rattle.std.proofs.Common.{◌≡◌, ℕ, ◌+◌, ◌<◌, List, [], ◌∷◌, ◌++◌, length, take, drop, set, get_or, reverse, refl, sym, ap, ◌∙◌, subst, append_assoc, append-nil, arith, length-take, Result}
 use Rattle.std.proofs.lemmas.List.{take_more, take_more_set, reverse-append, map-append, length-map}
+use Rattle.std.proofs.Math.Seq.{take-append_seam}
+use Rattle.std.specs.List.{AllByRecursion}
 use Rattle.protocol.specs.declared.outcomes.Outcome.{Outcome}
 use Rattle.protocol.specs.declared.refusals.Refusal.{Refusal}
-use Rattle.protocol.specs.Calls.{Call, turn}
+use Rattle.protocol.specs.Calls.{Call, GivenBytes, turn}
 use Rattle.protocol.specs.Models.{Model}
 use Rattle.suite.specs.Schemes.{Scheme}
 use Rattle.histories.specs.Histories.{entered, after, history}
@@ -46,8 +48,17 @@ records_on (x ∷ es) e = ap (λ z. charge_of x.record ++ z) (records_on es e) �
 pub records_more : (entries : List Entry) (i : ℕ) (e : Entry) → i < length entries → told_records (take (i + 1) (set entries i e)) ≡ told_records (take i entries) ++ charge_of e.record
 records_more entries i e h = ap told_records (take_more_set entries i e h) ∙ records_on (take i entries) e
 
+-- what was written over a whole list is what stands in its place
+pub written_back : (new lent old : List Entry) (n : ℕ) → n ≡ length old → lent ≡ old → length new ≡ length lent → take n (new ++ drop (length new) old) ≡ new
+written_back new lent old n p q r =
+    let e : n ≡ length new = p ∙ ap length (sym q) ∙ sym r in
+    ap (λ k. take k (new ++ drop (length new) old)) e ∙ take-append_seam new (drop (length new) old)
+
 -- One more call of a run: what was made so far, before it, and the call.
 module _ (s : Scheme) (m : Model) (made more : List Call) (k : Call) (before : Model) (e : more ≡ k ∷ made) (at : before ≡ after s m made) where
+  pub given_more : GivenBytes k → AllByRecursion GivenBytes made → AllByRecursion GivenBytes more
+  given_more one all = subst (λ z. AllByRecursion GivenBytes z) (sym e) (one, all)
+
   pub model_more : (left : Model) → left ≡ (turn s before k).model → left ≡ after s m more
   model_more left p = p ∙ ap (λ z. (turn s z k).model) at ∙ sym (ap (after s m) e)
 

@@ -1,10 +1,10 @@
 -- The entries of a transcript, as the definitions have them.
-use Rattle.std.specs.Prelude.{ℕ, ◌≤◌, List, length, [], ◌∷◌, ◌++◌, reverse, take, Some, None, Ok, Err, Option, Result}
+use Rattle.std.specs.Prelude.{ℕ, ◌≤◌, Bool, false, ◌==◌, List, length, filter, [], ◌∷◌, ◌++◌, reverse, take, Some, None, Ok, Err, Option, Result}
 use Rattle.protocol.specs.Calls.{Call, invoke, send, retrieve_data, retrieve_secret, terminate, frame, release}
 use Rattle.protocol.specs.declared.outcomes.Outcome.{Outcome}
 use Rattle.protocol.specs.declared.refusals.Refusal.{Refusal}
 use Rattle.histories.specs.Histories as h
-use Rattle.histories.specs.Records.{Charge, was_sent, was_handed}
+use Rattle.histories.specs.Records.{Charge, was_sent, was_handed, way_mark}
 use Rattle.histories.specs.Records as r
 use Rattle.replay.specs.declared.entry.Written.{Written}
 use Rattle.replay.specs.declared.entry.Way.{Way}
@@ -48,6 +48,18 @@ charge_of (Some x) = record { session = x.session; way = way_of x.way; plain = b
 abbrev pub told_records : List Entry → List Charge
 told_records [] = []
 told_records (e ∷ es) = charge_of e.record ++ told_records es
+
+abbrev pub is_handed : r.Way → Bool
+is_handed way = way_mark way == way_mark was_handed
+
+-- how many of the records that the entries tell were handed
+abbrev pub charged : List Entry → ℕ
+charged entries = length (filter (λ c. is_handed c.way) (told_records entries))
+
+-- whether it was a record that was handed
+abbrev pub hands_over : Option Record → Bool
+hands_over None = false
+hands_over (Some x) = is_handed (way_of x.way)
 
 -- a send that is answered had data that a record holds
 abbrev pub FitsSend : Call → Result Outcome Refusal → Type 0

@@ -1,7 +1,7 @@
 ghost use Rattle.std.specs.Prelude.{◌≡◌, length, IfOk, OnErr};
 ghost use Rattle.entity.specs.Views.{view};
 ghost use Rattle.replay.specs.Called.{calls_of};
-ghost use Rattle.replay.specs.Replays.{Promised, Replayed};
+ghost use Rattle.replay.specs.Replays.{Promised, Replayed, OrderTold};
 
 use super::call::Call;
 use super::entry::{Entry, Written};
@@ -42,6 +42,8 @@ pub fn replay<S: Suite, T: Suite>(
     ensures promised { Promised }
     ensures one { IfOk result (λ t. Replayed S.scheme (view S.meaning one.old) (calls_of calls.now) (view S.meaning one.new) t.one.items) }
     ensures other { IfOk result (λ t. Replayed T.scheme (view T.meaning other.old) (calls_of other_calls.now) (view T.meaning other.new) t.other.items) }
+    ensures order { IfOk result (λ t. OrderTold S.scheme T.scheme (view S.meaning one.old) (view T.meaning other.old) (calls_of calls.now) (calls_of other_calls.now) t.one.items t.other.items) }
+    ensures order_back { IfOk result (λ t. OrderTold T.scheme S.scheme (view T.meaning other.old) (view S.meaning one.old) (calls_of other_calls.now) (calls_of calls.now) t.other.items t.one.items) }
     ensures unchanged { OnErr result ((one.new ≡ one.old) × (other.new ≡ other.old)) }
 {
     let mut first = places(alloc, calls)?;

@@ -1,5 +1,7 @@
 ghost use Rattle.std.specs.Prelude.{◌≡◌};
-ghost use Rattle.replay.specs.Called.{room_of};
+ghost use Rattle.suite.specs.Meanings.{Bytes};
+ghost use Rattle.protocol.specs.Calls.{GivenBytes};
+ghost use Rattle.replay.specs.Called.{room_of, called};
 
 use frame::Service;
 
@@ -48,4 +50,24 @@ impl Call<'_> {
             Call::Release => 0,
         }
     }
+
+    // Does nothing. Its contract says, for a proof, that what a call was given are bytes.
+    pub(crate) fn given(&self)
+        ensures { GivenBytes (called self.now) }
+    {
+        match *self {
+            Call::Invoke { seed, .. } => are_bytes(seed),
+            Call::Send { plain, .. } => are_bytes(plain),
+            Call::Frame { bytes, seed, .. } => {
+                are_bytes(bytes);
+                are_bytes(seed);
+            }
+            _ => {}
+        }
+    }
 }
+
+// Nor does this: each element of a slice of bytes is one.
+fn are_bytes(slice: &[u8])
+    ensures { Bytes slice.now }
+{}

@@ -2,6 +2,7 @@
 #![tactic(auto)]
 
 mod again;
+mod bill;
 mod call;
 mod entry;
 mod make;
@@ -9,5 +10,6 @@ mod note;
 mod play;
 
 pub use again::{Transcripts, replay};
+pub use bill::charged;
 pub use call::Call;
 pub use entry::{Entry, Record, Way, Written};

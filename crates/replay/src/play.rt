@@ -1,10 +1,7 @@
-ghost use Rattle.std.specs.Prelude.{◌≡◌, ℕ, ◌<◌, ◌≤◌, length, reverse, All, slice_index};
-ghost use Rattle.protocol.specs.Calls.{turn};
-ghost use Rattle.histories.specs.Histories.{after, history};
-ghost use Rattle.histories.specs.Records.{charges};
+ghost use Rattle.std.specs.Prelude.{◌≡◌, ℕ, ◌<◌, ◌≤◌, length, All, slice_index};
 ghost use Rattle.entity.specs.Views.{view};
 ghost use Rattle.replay.specs.Called.{room_of, calls_of};
-ghost use Rattle.replay.specs.Entries.{told_history, told_records};
+ghost use Rattle.replay.specs.Replays.{Replayed};
 
 use super::call::Call;
 use super::entry::Entry;
@@ -33,12 +30,11 @@ pub(crate) fn play<S: Suite>(
 )
     requires rooms { All (λ c. room_of c ≤ length buffer.old) calls.now }
     requires places { length entries.old ≡ length calls.now }
-    ensures model { view S.meaning entity.new ≡ after S.scheme (view S.meaning entity.old) (reverse (calls_of calls.now)) }
-    ensures history { told_history (calls_of calls.now) entries.new ≡ history S.scheme (view S.meaning entity.old) (reverse (calls_of calls.now)) }
-    ensures records { told_records entries.new ≡ charges (history S.scheme (view S.meaning entity.old) (reverse (calls_of calls.now))) }
+    ensures { Replayed S.scheme (view S.meaning entity.old) (calls_of calls.now) (view S.meaning entity.new) entries.new }
 {
     let mut session = 0;
     for i in 0..calls.len() {
+        calls[i].given();
         let (answer, written) = make(entity, &calls[i], buffer);
         entries[i] = note(session, &calls[i], answer, written);
         session = next_session(session, answer);

@@ -1,4 +1,6 @@
 use Rattle.std.proofs.Common.{◌≡◌, length, take, reverse}
+use Rattle.std.specs.List.{AllByRecursion}
+use Rattle.protocol.specs.Calls.{GivenBytes}
 use Rattle.histories.specs.Histories.{after, history}
 use Rattle.histories.specs.Records.{charges, link_in}
 use Rattle.entity.specs.Views.{view}
@@ -15,6 +17,7 @@ invariant-loop-i g l =
     record {
       places : length l.entries ≡ length l.calls;
       lent : length l.buffer ≡ length l.initial.buffer;
+      bytes : AllByRecursion GivenBytes made;
       model : view g.S.HasMeaning.meaning l.entity ≡ after s m made;
       told : told_history (calls_of (take l.i l.calls)) (take l.i l.entries) ≡ history s m made;
       records : told_records (take l.i l.entries) ≡ charges (history s m made);

@@ -11,9 +11,9 @@ returns-in_err-made g c = record { model = search rules; answer = search rules; 
 pub invariant_of-self-2 : goal.invariant_of-self-2
 invariant_of-self-2 g c =
     let e = c.args.self.now in
-    let m = g.S.Suite.meaning e.suite in
+    let m = g.S.HasMeaning.meaning e.suite in
     record {
       long = e.long;
       bytes = e.bytes;
-      keys = agreed_live m (g.S.Suite.meaning c.agree.new.suite) (agreement g.S.Suite.scheme m c.args.seed.now c.args.offer.now Recipient) c.in_ok-made.made e.link _ (g.met.S.Suite.formed e.suite) (search rules) (search rules) c.agree.ensures.after;
+      keys = agreed_live m (g.S.HasMeaning.meaning c.agree.new.suite) (agreement g.S.Suite.scheme m c.args.seed.now c.args.offer.now Recipient) c.in_ok-made.made e.link _ (g.met.S.Suite.formed e.suite) (search rules) (search rules) c.agree.ensures.after;
     }

@@ -8,9 +8,9 @@ use Rattle.entity.proofs.entity.Entity.on_act_res.Goals as goal
 pub invariant_of-self-2 : goal.invariant_of-self-2
 invariant_of-self-2 g c =
     let e = c.args.self.now in
-    let m = g.S.Suite.meaning e.suite in
+    let m = g.S.HasMeaning.meaning e.suite in
     record {
       long = e.long;
       bytes = e.bytes;
-      keys = agreed_live m (g.S.Suite.meaning c.agree.new.suite) (agreement g.S.Suite.scheme m e.seed c.args.offer.now Sender) c.in_ok-made.made e.link _ (g.met.S.Suite.formed e.suite) (search rules) (search rules) c.agree.ensures.after;
+      keys = agreed_live m (g.S.HasMeaning.meaning c.agree.new.suite) (agreement g.S.Suite.scheme m e.seed c.args.offer.now Sender) c.in_ok-made.made e.link _ (g.met.S.Suite.formed e.suite) (search rules) (search rules) c.agree.ensures.after;
     }

@@ -7,5 +7,5 @@ pub returns-clause-short : goal.returns-clause-short
 returns-clause-short g c =
     let e = c.args.self.now in
     let room = c.told-scratch in
-    let short : c.unwrap-n.result ≤ 232 = seal_short g.S.Suite.scheme (g.S.Suite.meaning e.suite) e.link e.role c.args.number (length c.args.scratch.now) c.unwrap-n.result c.args.plain.now g.met.S.Suite.lawful (g.met.S.Suite.formed e.suite) (e.keys.link_live c.requires.state) c.requires.data (omega arith) (omega arith) (search rules) in
+    let short : c.unwrap-n.result ≤ 232 = seal_short g.S.Suite.scheme (g.S.HasMeaning.meaning e.suite) e.link e.role c.args.number (length c.args.scratch.now) c.unwrap-n.result c.args.plain.now g.met.S.Suite.lawful (g.met.S.Suite.formed e.suite) (e.keys.link_live c.requires.state) c.requires.data (omega arith) (omega arith) (search rules) in
     omega (arith, length-take c.unwrap-n.result c.seal.new.out)
