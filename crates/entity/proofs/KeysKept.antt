@@ -1,5 +1,5 @@
 -- The keys that an entity works with are live after a key was made.
-use Rattle.std.proofs.Common.{◌≡◌, ℕ, ◌+◌, ◌<◌, true, false, List, [], ◌∷◌, ◌++◌, is_some, Some, Ok, Err, Result, refl, sym, ap, ◌∙◌, arith}
+use Rattle.std.proofs.Common.{◌≡◌, ℕ, ◌+◌, ◌<◌, true, false, List, is_some, Ok, Err, Result, ap, arith}
 use Rattle.suite.specs.declared.types.KeyKind.{KeyKind}
 use Rattle.suite.specs.declared.types.KeyKind.TheVariants.{SharedSecret, LinkKey}
 use Rattle.suite.specs.Meanings.{Key, Meaning, WellFormed, value_in, value_of}
@@ -10,7 +10,6 @@ use Rattle.protocol.specs.declared.states.State.{State}
 use Rattle.protocol.specs.declared.states.State.TheVariants.{ConfirmedSch}
 use Rattle.protocol.specs.declared.faults.SuiteFault.{SuiteFault}
 use Rattle.protocol.specs.Models.{has_link, KeysLive}
-
 
 -- a new key is live
 pub new_live : (m : Meaning) (kind : KeyKind) (v : List ℕ) → WellFormed m → is_some (value_in (adding m kind v).live kind (m.newest + 1)) ≡ true

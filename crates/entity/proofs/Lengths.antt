@@ -1,5 +1,5 @@
 -- How long what a suite writes is, at most.
-use Rattle.std.proofs.Common.{◌≡◌, ℕ, ◌+◌, ◌≤◌, true, List, length, is_some, Ok, Result, ap, ◌∙◌, sym, arith}
+use Rattle.std.proofs.Common.{◌≡◌, ℕ, ◌+◌, ◌≤◌, true, List, length, is_some, Ok, Result, ap, ◌∙◌, arith}
 use Rattle.buffers.specs.Buffers.{length_answer}
 use Rattle.suite.specs.declared.types.KeyKind.TheVariants.{SharedSecret, LinkKey}
 use Rattle.suite.specs.declared.types.Role.{Role}

@@ -1,11 +1,6 @@
 -- What an entity is to the definitions, and what each call of it promises.
-use Rattle.std.specs.Prelude.{List, ℕ, Result}
 use Rattle.suite.specs.Meanings.{Meaning}
-use Rattle.suite.specs.Schemes.{Scheme}
-use Rattle.protocol.specs.declared.outcomes.Outcome.{Outcome}
-use Rattle.protocol.specs.declared.refusals.Refusal.{Refusal}
 use Rattle.protocol.specs.Models.{Model}
-use Rattle.protocol.specs.Calls.{Call, Made}
 use Rattle.entity.specs.declared.entity.Entity.{Entity}
 
 abbrev pub view : {S : Type 0} {b : _} → (S → Meaning) → Entity S b → Model

@@ -11,7 +11,9 @@ pub enum Call<'a> {
         seed: &'a [u8],
     },
     /// The user sends the data of a record, 1 to 200 bytes.
-    Send { plain: &'a [u8] },
+    Send {
+        plain: &'a [u8],
+    },
     /// The user retrieves the data of a record that was taken in.
     RetrieveData,
     /// The user retrieves the shared secret.

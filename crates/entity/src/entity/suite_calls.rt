@@ -29,19 +29,11 @@ impl<S: Suite> Entity<S> {
         ensures value { result.now ≡ check_value S.scheme (view S.meaning self.now) role }
         ensures short { length result.now ≤ 32 }
     {
-        let n = self
-            .suite
-            .check(self.secret, role.byte(), scratch)
-            .unwrap();
+        let n = self.suite.check(self.secret, role.byte(), scratch).unwrap();
         &scratch[..n]
     }
 
-    pub(super) fn seal<'a>(
-        &self,
-        number: u32,
-        plain: &[u8],
-        scratch: &'a mut [u8; 255],
-    ) -> &'a [u8]
+    pub(super) fn seal<'a>(&self, number: u32, plain: &[u8], scratch: &'a mut [u8; 255]) -> &'a [u8]
         requires state { has_link self.now.state ≡ true }
         requires data { length plain.now ≤ 200 }
         requires number { number < 16777216 }
