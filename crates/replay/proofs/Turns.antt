@@ -11,7 +11,7 @@ use Rattle.suite.specs.Schemes.{Scheme}
 use Rattle.histories.specs.Histories.{entered, after, history}
 use Rattle.histories.specs.Histories as h
 use Rattle.histories.specs.Records.{Charge, charges, link_in, next_session, charged_in}
-use Rattle.replay.specs.declared.call.Call.{Call as Logged}
+use Rattle.replay.specs.declared.logged.Logged.{Logged}
 use Rattle.replay.specs.declared.entry.Entry.{Entry}
 use Rattle.replay.specs.Called.{called, calls_of}
 use Rattle.replay.specs.Entries.{told, told_each, told_history, told_records, charge_of}

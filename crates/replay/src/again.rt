@@ -3,8 +3,8 @@ ghost use Rattle.entity.specs.Views.{view};
 ghost use Rattle.replay.specs.Called.{calls_of};
 ghost use Rattle.replay.specs.Replays.{Promised, Replayed, OrderTold};
 
-use super::call::Call;
 use super::entry::{Entry, Written};
+use super::logged::Logged;
 use super::play::{longest, play};
 use entity::Entity;
 use protocol::Refusal;
@@ -19,15 +19,15 @@ pub struct Transcripts {
 }
 
 // Places for the entries of a log.
-fn places(alloc: Global, calls: &[Call<'_>]) -> Result<Vec<Entry>, AllocError>
-    ensures { IfOk result (λ v. length v.items ≡ length calls.now) }
+fn places(alloc: Global, log: &[Logged<'_>]) -> Result<Vec<Entry>, AllocError>
+    ensures { IfOk result (λ v. length v.items ≡ length log.now) }
 {
     let blank = Entry {
         answer: Err(Refusal::WrongState),
         written: Written::nothing(),
         record: None,
     };
-    vec![in alloc; blank; calls.len()]
+    vec![in alloc; blank; log.len()]
 }
 
 // Makes the calls of two logs again, each to its entity, and tells what they answered and wrote, and the records that each user sent
@@ -36,22 +36,22 @@ pub fn replay<S: Suite, T: Suite>(
     alloc: Global,
     one: &mut Entity<S>,
     other: &mut Entity<T>,
-    calls: &[Call<'_>],
-    other_calls: &[Call<'_>],
+    log: &[Logged<'_>],
+    other_log: &[Logged<'_>],
 ) -> Result<Transcripts, AllocError>
     ensures promised { Promised }
-    ensures one { IfOk result (λ t. Replayed S.scheme (view S.meaning one.old) (calls_of calls.now) (view S.meaning one.new) t.one.items) }
-    ensures other { IfOk result (λ t. Replayed T.scheme (view T.meaning other.old) (calls_of other_calls.now) (view T.meaning other.new) t.other.items) }
-    ensures order { IfOk result (λ t. OrderTold S.scheme T.scheme (view S.meaning one.old) (view T.meaning other.old) (calls_of calls.now) (calls_of other_calls.now) t.one.items t.other.items) }
-    ensures order_back { IfOk result (λ t. OrderTold T.scheme S.scheme (view T.meaning other.old) (view S.meaning one.old) (calls_of other_calls.now) (calls_of calls.now) t.other.items t.one.items) }
+    ensures one { IfOk result (λ t. Replayed S.scheme (view S.meaning one.old) (calls_of log.now) (view S.meaning one.new) t.one.items) }
+    ensures other { IfOk result (λ t. Replayed T.scheme (view T.meaning other.old) (calls_of other_log.now) (view T.meaning other.new) t.other.items) }
+    ensures order { IfOk result (λ t. OrderTold S.scheme T.scheme (view S.meaning one.old) (view T.meaning other.old) (calls_of log.now) (calls_of other_log.now) t.one.items t.other.items) }
+    ensures order_back { IfOk result (λ t. OrderTold T.scheme S.scheme (view T.meaning other.old) (view S.meaning one.old) (calls_of other_log.now) (calls_of log.now) t.other.items t.one.items) }
     ensures unchanged { OnErr result ((one.new ≡ one.old) × (other.new ≡ other.old)) }
 {
-    let mut first = places(alloc, calls)?;
-    let mut second = places(alloc, other_calls)?;
-    let room = longest(calls).max(longest(other_calls));
+    let mut first = places(alloc, log)?;
+    let mut second = places(alloc, other_log)?;
+    let room = longest(log).max(longest(other_log));
     let mut buffer = vec![in alloc; 0; room]?;
-    play(one, calls, &mut buffer, &mut first);
-    play(other, other_calls, &mut buffer, &mut second);
+    play(one, log, &mut buffer, &mut first);
+    play(other, other_log, &mut buffer, &mut second);
     Ok(Transcripts {
         one: first,
         other: second,

@@ -3,13 +3,13 @@
 
 mod again;
 mod bill;
-mod call;
 mod entry;
+mod logged;
 mod make;
 mod note;
 mod play;
 
 pub use again::{Transcripts, replay};
 pub use bill::charged;
-pub use call::Call;
 pub use entry::{Entry, Record, Way, Written};
+pub use logged::Logged;

@@ -3,8 +3,9 @@ ghost use Rattle.histories.specs.Records.{charged_in, next_session};
 ghost use Rattle.replay.specs.Called.{called};
 ghost use Rattle.replay.specs.Entries.{bytes_of, charge_of, told, FitsSend};
 
-use super::call::Call;
 use super::entry::{Entry, Record, Way, Written};
+use super::logged::Logged;
+use entity::Call;
 use protocol::{Confirmation, Outcome, Refusal};
 
 // The session that runs after a call, by what it answered: 0 for none.
@@ -26,19 +27,19 @@ pub(crate) fn next_session(session: u32, answer: Result<Outcome, Refusal>) -> u3
 // The record that a call sent or handed out.
 fn record(
     session: u32,
-    call: &Call<'_>,
+    logged: &Logged<'_>,
     answer: Result<Outcome, Refusal>,
     written: Written,
 ) -> Option<Record>
-    requires { FitsSend (called call.now) answer }
-    ensures { charge_of result ≡ charged_in session (record { call = called call.now; answer = answer; written = bytes_of written }) }
+    requires { FitsSend (called logged.now) answer }
+    ensures { charge_of result ≡ charged_in session (record { call = called logged.now; answer = answer; written = bytes_of written }) }
 {
     let outcome = answer.ok()?;
-    let (way, plain) = match *call {
-        Call::Send { plain, .. } if outcome.confirmation == Confirmation::DataSent => {
+    let (way, plain) = match logged.call {
+        Call::Send { plain } if outcome.confirmation == Confirmation::DataSent => {
             (Way::Sent, Written::new(plain))
         }
-        Call::RetrieveData { .. } => (Way::Handed, written),
+        Call::RetrieveData => (Way::Handed, written),
         _ => return None,
     };
     Some(Record {
@@ -51,17 +52,17 @@ fn record(
 // What is noted of a call.
 pub(crate) fn note(
     session: u32,
-    call: &Call<'_>,
+    logged: &Logged<'_>,
     answer: Result<Outcome, Refusal>,
     written: Written,
 ) -> Entry
-    requires { FitsSend (called call.now) answer }
-    ensures told { told (called call.now) result ≡ record { call = called call.now; answer = answer; written = bytes_of written } }
-    ensures record { charge_of result.record ≡ charged_in session (told (called call.now) result) }
+    requires { FitsSend (called logged.now) answer }
+    ensures told { told (called logged.now) result ≡ record { call = called logged.now; answer = answer; written = bytes_of written } }
+    ensures record { charge_of result.record ≡ charged_in session (told (called logged.now) result) }
 {
     Entry {
         answer,
         written,
-        record: record(session, call, answer, written),
+        record: record(session, logged, answer, written),
     }
 }

@@ -10,6 +10,6 @@ pub returns-clause-written : goal.returns-clause-written
 returns-clause-written g c =
     let s = g.S.Suite.scheme in
     let m = view g.S.HasMeaning.meaning c.args.entity.now in
-    let k = called c.args.call.now in
-    let made = c.call_with-answer in
+    let k = called c.args.logged.now in
+    let made = c.call-answer in
     c.written-written.ensures ∙ reply_told m (turn s m k) made.result made.new.buffer _ (every_call_ends s m k) made.ensures.answer made.ensures.buffer

@@ -1,7 +1,6 @@
 use Rattle.std.proofs.Common.{ℕ, ◌<◌, ◌≤◌, slice_index_or}
-use Rattle.replay.specs.declared.call.Call.{Call}
-use Rattle.replay.specs.Called.{room_of}
+use Rattle.replay.specs.declared.logged.Logged.{Logged}
 use Rattle.replay.proofs.play.longest.Given as goal
 
-abbrev pub invariant-loop-call : goal.invariant-loop-call
-invariant-loop-call l = (k : ℕ) (d : Call) → k < l.call-index → room_of (slice_index_or l.calls k d) ≤ l.most
+abbrev pub invariant-loop-logged : goal.invariant-loop-logged
+invariant-loop-logged l = (k : ℕ) (d : Logged) → k < l.logged-index → (slice_index_or l.log k d).room ≤ l.most

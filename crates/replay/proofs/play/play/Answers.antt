@@ -11,7 +11,7 @@ pub loop-i-preserved : goal.loop-i-preserved
 loop-i-preserved g c =
     let s = g.S.Suite.scheme in
     let m = view g.S.HasMeaning.meaning c.args.entity.now in
-    let log = c.args.calls.now in
+    let log = c.args.log.now in
     let i = c.loop-i.i in
     let so_far = c.loop-i.invariant in
     let low : i < length log = omega arith in
@@ -38,8 +38,8 @@ returns g c =
     let m = view g.S.HasMeaning.meaning c.args.entity.now in
     let so_far = c.loop-i.invariant in
     let long : length c.loop-i.entries ≤ c.loop-i.i = omega arith in
-    let all : take c.loop-i.i c.args.calls.now ≡ c.args.calls.now = take_all _ _ c.loop-i-test.false in
+    let all : take c.loop-i.i c.args.log.now ≡ c.args.log.now = take_all _ _ c.loop-i-test.false in
     let all_told : take c.loop-i.i c.loop-i.entries ≡ c.loop-i.entries = take_all _ _ long in
     subst (λ z. Replayed s m (calls_of z) (view g.S.HasMeaning.meaning c.loop-i.entity) c.loop-i.entries) all
-    (subst (λ z. Replayed s m (calls_of (take c.loop-i.i c.args.calls.now)) (view g.S.HasMeaning.meaning c.loop-i.entity) z) all_told
-    (replayed s g.met.S.Suite.lawful m (calls_of (take c.loop-i.i c.args.calls.now)) _ _ so_far.model so_far.told so_far.records so_far.bytes))
+    (subst (λ z. Replayed s m (calls_of (take c.loop-i.i c.args.log.now)) (view g.S.HasMeaning.meaning c.loop-i.entity) z) all_told
+    (replayed s g.met.S.Suite.lawful m (calls_of (take c.loop-i.i c.args.log.now)) _ _ so_far.model so_far.told so_far.records so_far.bytes))

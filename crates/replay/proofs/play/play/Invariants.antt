@@ -13,13 +13,13 @@ abbrev pub invariant-loop-i : goal.invariant-loop-i
 invariant-loop-i g l =
     let s = g.S.Suite.scheme in
     let m = view g.S.HasMeaning.meaning l.fn.entity in
-    let made = reverse (calls_of (take l.i l.calls)) in
+    let made = reverse (calls_of (take l.i l.log)) in
     record {
-      places : length l.entries ≡ length l.calls;
+      places : length l.entries ≡ length l.log;
       lent : length l.buffer ≡ length l.initial.buffer;
       bytes : AllByRecursion GivenBytes made;
       model : view g.S.HasMeaning.meaning l.entity ≡ after s m made;
-      told : told_history (calls_of (take l.i l.calls)) (take l.i l.entries) ≡ history s m made;
+      told : told_history (calls_of (take l.i l.log)) (take l.i l.entries) ≡ history s m made;
       records : told_records (take l.i l.entries) ≡ charges (history s m made);
       session : l.session ≡ link_in (history s m made);
     }

@@ -1,0 +1,34 @@
+ghost use Rattle.suite.specs.Meanings.{Bytes};
+ghost use Rattle.protocol.specs.Calls.{GivenBytes};
+ghost use Rattle.replay.specs.Called.{called};
+
+use entity::Call;
+
+/// A call as a log has it: what it was given, and how many bytes the buffer had that was lent beside.
+#[derive(Clone, Copy)]
+pub struct Logged<'a> {
+    pub call: Call<'a>,
+    pub room: usize,
+}
+
+impl Logged<'_> {
+    // Does nothing. Its contract says, for a proof, that what a call was given are bytes.
+    pub(crate) fn given(&self)
+        ensures { GivenBytes (called self.now) }
+    {
+        match self.call {
+            Call::Invoke { seed, .. } => are_bytes(seed),
+            Call::Send { plain } => are_bytes(plain),
+            Call::Frame { bytes, beside } => {
+                are_bytes(bytes);
+                are_bytes(beside.seed);
+            }
+            _ => {}
+        }
+    }
+}
+
+// Nor does this: each element of a slice of bytes is one.
+fn are_bytes(slice: &[u8])
+    ensures { Bytes slice.now }
+{}
