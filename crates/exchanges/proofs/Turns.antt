@@ -89,7 +89,7 @@ module _ (s : Scheme) (root : List ℕ) (last n room : ℕ) (wide : ltb room 255
   checks state v role other seed = ap (λ z. s.check_of (keyring_of (agreed_suite root last n value)) n z (role_byte other)) (secret_is n value)
 
   derives : (state : State) (role : Role) (seed : List ℕ) → eqb n last ≡ false
-      → derivation s (before state Sch role seed) ≡ Ok (s.link_of (keyring_of (agreed_suite root last n value)) n value)
+      → derivation s (before state Sch role seed).means n ≡ Ok (s.link_of (keyring_of (agreed_suite root last n value)) n value)
   derives state role seed left =
       let same = secret_is n value in
       rw (left, same)

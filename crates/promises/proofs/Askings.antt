@@ -125,7 +125,7 @@ module _ (s : Scheme) (law : Lawful s) where
   serves_none : (root : List ℕ) (last n : ℕ) {state : State} {service : Service} {role : Role} {seed : List ℕ} {number : ℕ} → Base root last n → state ≢ ConfirmedSch → has_secret state ≡ false → (state ≡ Select → length seed ≡ 16) → AsksWell s (unlinked (none_live root last n) state service role seed number 0)
   serves_none root last n b unlinked' none kept = record {
     formed = none_formed root last n b;
-    live = record { secret = λ some. clash _ none some; link = λ e. absurd (unlinked' (is_sch _ e)) };
+    live = record { secret_live = λ some. clash _ none some; link_live = λ e. absurd (unlinked' (is_sch _ e)) };
     offer = λ seed room e h. offer_asked s (none_live root last n) seed room e h;
     agreement = λ seed offer role e. agreement_asked s (none_live root last n) seed offer role e;
     kept_seed = kept;
@@ -139,7 +139,7 @@ module _ (s : Scheme) (law : Lawful s) where
   serves_secret : (root : List ℕ) (last n : ℕ) (v : List ℕ) {state : State} {service : Service} {role : Role} {seed : List ℕ} {number : ℕ} → SecretOnly state → One root last n v → AsksWell s (unlinked (one_live root last n v) state service role seed number n)
   serves_secret root last n v k one = record {
     formed = one_formed root last n v one;
-    live = record { secret = λ _. ap is_some (secret_there n v []); link = λ e. absurd (below_link k (is_sch _ e)) };
+    live = record { secret_live = λ _. ap is_some (secret_there n v []); link_live = λ e. absurd (below_link k (is_sch _ e)) };
     offer = λ seed room e h. offer_asked s (one_live root last n v) seed room e h;
     agreement = λ seed offer role e. agreement_asked s (one_live root last n v) seed offer role e;
     kept_seed = λ e. absurd (above_select k e);
@@ -153,7 +153,7 @@ module _ (s : Scheme) (law : Lawful s) where
   serves_link : (root : List ℕ) (last n : ℕ) (v w : List ℕ) {role : Role} {seed : List ℕ} {number : ℕ} {held : List ℕ} → Two root last n v w → AsksWell s (in_link (two_live root last n v w) role seed number held n)
   serves_link root last n v w two = record {
     formed = two_formed root last n v w two;
-    live = record { secret = λ _. ap is_some (secret_there n v (link_key (n + 1) w ∷ [])); link = λ _. ap is_some (link_there n v w) };
+    live = record { secret_live = λ _. ap is_some (secret_there n v (link_key (n + 1) w ∷ [])); link_live = λ _. ap is_some (link_there n v w) };
     offer = λ seed room e h. offer_asked s (two_live root last n v w) seed room e h;
     agreement = λ seed offer role e. agreement_asked s (two_live root last n v w) seed offer role e;
     kept_seed = λ e. (cc);

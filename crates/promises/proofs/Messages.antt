@@ -50,7 +50,7 @@ next_listed n = let e : eqb (n + 1) 0 ≡ false = ne_eqb (n + 1) 0 (λ x. omega 
 module _ (s : Scheme) (law : Lawful s) {root : List ℕ} {last : ℕ} where
   -- where the suite agrees it has a shared secret
   agreed_one : {newest : ℕ} (offer seed : List ℕ) (role : Role) (value : List ℕ) → Base root last newest → Bytes16 seed → Bytes offer
-      → agreement s (fresh (none_live root last newest)) seed offer role ≡ Ok value → One root last (newest + 1) value
+      → agreement s (none_live root last newest) seed offer role ≡ Ok value → One root last (newest + 1) value
   agreed_one {newest} offer seed role value base sb ob q =
       let means = none_live root last newest in
       let k = keyring_of means in
@@ -62,7 +62,7 @@ module _ (s : Scheme) (law : Lawful s) {root : List ℕ} {last : ℕ} where
 
   -- where it derives it has a link key too
   derived_two : (n : ℕ) (v value : List ℕ) → One root last n v
-      → derivation s (record (fresh (one_live root last n v)) { secret = n }) ≡ Ok value → Two root last n v value
+      → derivation s (one_live root last n v) n ≡ Ok value → Two root last n v value
   derived_two n v value one q =
       let means = one_live root last n v in
       let made : List ℕ → Result (List ℕ) SuiteFault = λ x. Ok (s.link_of (keyring_of means) n x) in
@@ -89,7 +89,7 @@ module _ (s : Scheme) (law : Lawful s) (c : Call) (sep : ℕ) where
         let m = unlinked (none_live root last newest) st.Idle kept role old number 0 in
         let S : Sound s m = at_idle base in
         both (not (eqb pid s.pid)) (Does m) (λ _. does_fail _ S)
-        (λ _. each (Does m) m (agreement s m seed offer Recipient) _ (λ e. does_fail _ S)
+        (λ _. each (Does m) m (agreement s m.means seed offer Recipient) _ (λ e. does_fail _ S)
         (λ value q.
         let one = agreed_one s law offer seed Recipient value base sb ob q in
         agrees (at_secret st.EstablishedRecipient (record { low = omega arith; high = omega arith }) one) refl refl (record { newest = refl; live = refl; makes = next_listed newest; destroys = refl }) refl))
@@ -97,14 +97,14 @@ module _ (s : Scheme) (law : Lawful s) (c : Call) (sep : ℕ) where
     does_act_res : (offer : List ℕ) → Bytes16 old → Bytes offer → let m = unlinked (none_live root last newest) st.Select kept role old number 0 in Does m (on_act_res s m offer)
     does_act_res offer long ob =
         let m = unlinked (none_live root last newest) st.Select kept role old number 0 in
-        each (Does m) m (agreement s m old offer Sender) _ (λ e. does_fail _ (at_select base long))
+        each (Does m) m (agreement s m.means old offer Sender) _ (λ e. does_fail _ (at_select base long))
         (λ value q.
         let one = agreed_one s law offer old Sender value base long ob q in
         agrees (at_secret st.EstablishedSender (record { low = omega arith; high = omega arith }) one) refl refl (record { newest = refl; live = refl; makes = next_listed newest; destroys = refl }) refl)
 
   -- Established
   module _ (state : State) (k : SecretOnly state) {root : List ℕ} {last : ℕ} {role : Role} {seed : List ℕ} {number : ℕ} (n : ℕ) (v : List ℕ) (one : One root last n v) where
-    does_link : (reply : List ℕ) (r : Result (List ℕ) SuiteFault) → let m = unlinked (one_live root last n v) state Sch role seed number n in derivation s m ≡ r → Does m (unless m (linked s m r) (λ x. moved x.0 conf.Established x.1 reply))
+    does_link : (reply : List ℕ) (r : Result (List ℕ) SuiteFault) → let m = unlinked (one_live root last n v) state Sch role seed number n in derivation s m.means m.secret ≡ r → Does m (unless m (linked s m r) (λ x. moved x.0 conf.Established x.1 reply))
     does_link reply (Err e) q = does_fail _ (at_secret state k one)
     does_link reply (Ok value) q =
         let m = unlinked (one_live root last n v) state Sch role seed number n in

@@ -88,7 +88,7 @@ pub record ServesAsLink (s : Scheme) (means : Meaning) (key : ℕ) : Type 0 wher
 pub record AsksWell (s : Scheme) (m : Model) : Type 0 where
   pub formed : WellFormed m.means
   -- the keys that a call works with are live
-  pub live : KeysLive m
+  pub live : KeysLive m.means m.state m.secret m.link
   -- invoke and ACT_REQ ask for an offer, ACT_REQ and ACT_RES for an agreement; ACT_RES brings no seed, so one is kept
   pub offer : (seed : List ℕ) (room : ℕ) → length seed ≡ 16 → 255 ≤ room → WellAsked (offered s m.means seed room)
   pub agreement : (seed offer : List ℕ) (role : Role) → length seed ≡ 16 → WellAsked (agreed s m.means seed offer (role_byte role))
