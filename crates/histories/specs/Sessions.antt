@@ -8,6 +8,7 @@ use Rattle.protocol.specs.Models.{Model}
 use Rattle.protocol.specs.Calls.{Call, invoke, send, retrieve_data, retrieve_secret, terminate, frame, release, turn}
 use Rattle.histories.specs.Histories.{Entry, History, entered, destroyed_in, after, history, Runs, confirms, member}
 
+-- the frame that a send wrote
 abbrev pub sealed_by : List ℕ → Call → List (List ℕ)
 sealed_by written (invoke service pid seed room) = []
 sealed_by written (send plain room) = written ∷ []
@@ -21,23 +22,27 @@ sealed_by written release = []
 abbrev pub enc_in : Entry → List (List ℕ)
 enc_in e = cond (confirms 2 e.answer) (sealed_by e.written e.call) []
 
+-- those of all calls, the oldest first
 abbrev pub encs : History → List (List ℕ)
 encs [] = []
 encs (e ∷ h) = encs h ++ enc_in e
 
--- the number that an ENC opens to under a link key, by its serial and value, for a suite with that keyring
+-- the number of what was opened, if it was good
 abbrev pub opens_to : Option (ℕ × ℕ × List ℕ) → List ℕ
 opens_to None = []
 opens_to (Some t) = t.1 ∷ []
 
+-- the number that an ENC, its first byte with it, opens to under a link key, by the keyring, and the key's serial and value
 abbrev pub number_in : Scheme → Keyring → ℕ → List ℕ → List ℕ → List ℕ
 number_in s k serial value [] = []
 number_in s k serial value (b ∷ payload) = opens_to (s.open_of k serial value payload)
 
+-- the numbers that ENCs open to
 abbrev pub numbers : Scheme → Keyring → ℕ → List ℕ → List (List ℕ) → List ℕ
 numbers s k serial value [] = []
 numbers s k serial value (x ∷ xs) = number_in s k serial value x ++ numbers s k serial value xs
 
+-- it is one of these
 abbrev pub In : List ℕ → List (List ℕ) → Type 0
 In x [] = ⊥
 In x (y ∷ ys) = (x ≡ y) ⊎ In x ys
@@ -47,6 +52,7 @@ abbrev pub CopyOf : List (List ℕ) → List ℕ → Type 0
 CopyOf copies [] = Unit {0}
 CopyOf copies (b ∷ rest) = b ≡ 0x14 → In (b ∷ rest) copies
 
+-- so is the frame that a call was given, if it was given one
 abbrev pub CopyIn : List (List ℕ) → Call → Type 0
 CopyIn copies (invoke service pid seed room) = Unit {0}
 CopyIn copies (send plain room) = Unit {0}
@@ -91,9 +97,11 @@ pub data EndedSession (s : Scheme) (m : Model) : List Call → ℕ → List ℕ 
 abbrev pub LinkSession : Scheme → Model → List Call → ℕ → List ℕ → History → Type 0
 LinkSession s m calls n value since = InSession s m calls n value since ⊎ EndedSession s m calls n value since
 
+-- the keyring of the suite after these calls
 abbrev keyring_after : Scheme → Model → List Call → Keyring
 keyring_after s m calls = keyring_of (after s m calls).means
 
+-- that of a session that is over, before its last call
 abbrev keyring_then : {s : Scheme} {m : Model} {calls : List Call} {n : ℕ} {value : List ℕ} {since : History} → EndedSession s m calls n value since → Keyring
 keyring_then {s} {m} (ends {calls} c x d) = keyring_after s m calls
 keyring_then (stays c x) = keyring_then x

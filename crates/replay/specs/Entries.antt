@@ -49,6 +49,7 @@ abbrev pub told_records : List Entry → List Charge
 told_records [] = []
 told_records (e ∷ es) = charge_of e.record ++ told_records es
 
+-- it was handed, and not sent
 abbrev pub is_handed : r.Way → Bool
 is_handed way = way_mark way == way_mark was_handed
 

@@ -32,6 +32,7 @@ fn places(alloc: Global, log: &[Logged<'_>]) -> Result<Vec<Entry>, AllocError>
 
 // Makes the calls of two logs again, each to its entity, and tells what they answered and wrote, and the records that each user sent
 // and was handed, session by session. Memory is got first: where there is none, no call is made.
+#[tactic(auto, using(crate::proofs::Turns::written_back))]
 pub fn replay<S: Suite, T: Suite>(
     alloc: Global,
     one: &mut Entity<S>,

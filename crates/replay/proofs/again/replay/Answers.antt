@@ -1,4 +1,4 @@
-use Rattle.std.proofs.Common.{◌≡◌, ◌++◌, length, take, drop}
+use Rattle.std.proofs.Common.{rules, ◌≡◌, ◌++◌, length, take, drop}
 use Rattle.promises.proofs.Whole.{promises_hold}
 use Rattle.exchanges.proofs.Whole.{undisturbed_succeeds}
 use Rattle.replay.specs.Replays.{Promised}
@@ -25,17 +25,11 @@ returns-clause-promised g c = all_hold
 -- the entries are what was written to their places
 one_back : (g : Over) (c : goal.After-drop-buffer g)
     → take c.in_ok-first.first.len (c.play.new.entries ++ drop (length c.play.new.entries) c.in_ok-first.first.items) ≡ c.play.new.entries
-one_back g c = written_back c.play.new.entries _ c.in_ok-first.first.items _ c.in_ok-first.first.ok.0 c.deref_mut-2.ensures.value c.play.auto.entries
+one_back g c = search (rules, written_back)
 
 other_back : (g : Over) (c : goal.After-drop-buffer g)
     → take c.in_ok-second.second.len (c.play-2.new.entries ++ drop (length c.play-2.new.entries) c.in_ok-second.second.items) ≡ c.play-2.new.entries
-other_back g c = written_back c.play-2.new.entries _ c.in_ok-second.second.items _ c.in_ok-second.second.ok.0 c.deref_mut-4.ensures.value c.play-2.auto.entries
-
-pub returns-clause-one : goal.returns-clause-one
-returns-clause-one g c = rw (one_back g c) c.play.ensures
-
-pub returns-clause-other : goal.returns-clause-other
-returns-clause-other g c = rw (other_back g c) c.play-2.ensures
+other_back g c = search (rules, written_back)
 
 pub returns-clause-order : goal.returns-clause-order
 returns-clause-order g c =
