@@ -6,10 +6,8 @@ use Rattle.std.proofs.lemmas.Nat.{xor_lt}
 use Rattle.std.proofs.ByRecursion.{All-take, All-map, All-weaker, All-get_or}
 use Rattle.suite.specs.Meanings.{Bytes16}
 use Rattle.suite.proofs.ByteLaws.{role_byte-small, low_byte}
-use Rattle.suite.specs.Schemes.{Lawful}
 use Rattle.suite_of.specs.Kinds.{Sound}
-use Rattle.suite_of.specs.KindLaws.{lawful_of}
-use Rattle.bench_suite.specs.Benches.{bench_functions, bench_scheme, linked}
+use Rattle.bench_suite.specs.Benches.{bench_functions, linked}
 use Rattle.bench_suite.specs.Xors.{xored-length, xored-bytes, xored_swap}
 
 -- a link key has sixteen bytes
@@ -49,7 +47,3 @@ bench_sound = record {
   field_long = λ value body v. refl;
   field_bytes = λ value body v. (low_byte _, tt);
 }
-
--- so it keeps the laws
-pub bench_lawful : Lawful bench_scheme
-bench_lawful = lawful_of bench_functions bench_sound

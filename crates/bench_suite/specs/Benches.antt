@@ -1,7 +1,6 @@
 -- What the bench suite computes: every step can be followed by hand.
 use Rattle.std.specs.Prelude.{ℕ, ◌%◌, List, [], ◌∷◌, map, take, sum, bit_xor, slice_index}
 use Rattle.suite.specs.Schemes.{Scheme}
-use Rattle.suite_of.specs.Streams.{streamed}
 use Rattle.suite_of.specs.Kinds.{Functions, scheme_of}
 
 -- two lists XOR each other, byte by byte
@@ -16,10 +15,6 @@ linked secret = map (λ x. bit_xor x 0x5A) secret
 
 abbrev pub sum_byte : List ℕ → ℕ
 sum_byte xs = sum xs % 256
-
--- data from the place i on: each byte XOR the byte of the key at its place modulo 16
-abbrev pub masked : List ℕ → ℕ → List ℕ → List ℕ
-masked key i xs = streamed (λ k. slice_index key (k % 16)) i xs
 
 -- data are XORed with the link key, whose bytes are taken round; the last field is the sum of all before it
 abbrev pub bench_functions : Functions

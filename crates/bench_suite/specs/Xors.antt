@@ -1,30 +1,9 @@
 -- Bytes XOR bytes.
-use Rattle.std.specs.Prelude.{◌≡◌, ℕ, suc, ◌+◌, ◌%◌, ◌<◌, ◌≤◌, List, [], ◌∷◌, map, length, drop, replicate, bit_xor, slice_index_or, refl}
+use Rattle.std.specs.Prelude.{◌≡◌, ℕ, suc, List, [], ◌∷◌, length, refl}
 use Rattle.std.proofs.Common.{sym, ap, arith}
 use Rattle.std.proofs.lemmas.Nat.{xor_comm, xor_lt}
-use Rattle.std.proofs.lemmas.List.{drop_more, get_or-replicate}
 use Rattle.suite.specs.Meanings.{Bytes}
-use Rattle.bench_suite.specs.Benches.{masked, xored}
-
--- under a key of sixteen equal bytes each byte is masked alike
-pub masked_alike : (b i : ℕ) (xs : List ℕ) → masked (replicate 16 b) i xs ≡ map (λ x. bit_xor x b) xs
-masked_alike b i [] = refl
-masked_alike b i (x ∷ xs) =
-    let low : i % 16 < 16 = omega arith in
-    let e : slice_index_or (replicate 16 b) (i % 16) 0 ≡ b = get_or-replicate 16 (i % 16) b 0 low in
-    let t = masked_alike b (i + 1) xs in
-    cc
-
--- no longer than the key, the data are masked by the key's own bytes in turn
-pub masked_straight : (key : List ℕ) (i : ℕ) (xs : List ℕ) → length key ≡ 16 → i + length xs ≤ 16 → masked key i xs ≡ xored xs (drop i key)
-masked_straight key i [] long fits = refl
-masked_straight key i (x ∷ xs) long fits =
-    let at : i < length key = omega arith in
-    let low : i % 16 ≡ i = omega arith in
-    let less : (i + 1) + length xs ≤ 16 = omega arith in
-    let t = masked_straight key (i + 1) xs long less in
-    let d = drop_more key i 0 at in
-    rw (d, low, t)
+use Rattle.bench_suite.specs.Benches.{xored}
 
 -- XOR does not ask for the order
 pub xored_swap : (xs ys : List ℕ) → xored xs ys ≡ xored ys xs

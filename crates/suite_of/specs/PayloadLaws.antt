@@ -2,8 +2,8 @@
 use Rattle.std.specs.Prelude.{◌≡◌, ℕ, ◌+◌, ◌-◌, ◌*◌, ◌/◌, ◌%◌, ◌<◌, ◌≤◌, true, ◌&&◌, List, length, drop, Some, None, Option, nat_le, slice_index}
 use Rattle.std.specs.Option.{option_map}
 use Rattle.std.specs.Str.{bytes_eq}
-use Rattle.std.proofs.Common.{sym, ap, ◌∙◌, arith, length-take, length-drop, length-append}
-use Rattle.std.proofs.lemmas.Bool.{le-leb, leb-true, and_parts, and_from, cond-true}
+use Rattle.std.proofs.Common.{sym, ap, ◌∙◌, arith, length-append}
+use Rattle.std.proofs.lemmas.Bool.{le-leb, and_from, cond-true}
 use Rattle.std.proofs.lemmas.Slice.Eq.{bytes_eq-Decides}
 use Rattle.std.proofs.ByRecursion.{All-append}
 use Rattle.std.proofs.lemmas.List.{take_at, drop_at}
@@ -26,12 +26,6 @@ number_back n h = omega arith
 
 pub reads_good : (w : ℕ) (field : List ℕ → List ℕ) (stream : ℕ → ℕ → ℕ → ℕ) (p : List ℕ) → is_good w field p ≡ true → read_of w field stream p ≡ Some (slice_index p 0, number_at p, streamed (stream (slice_index p 0) (number_at p)) 0 (drop 5 (front w p)))
 reads_good w field stream p good = ap (option_map (λ t. (t.0, t.1, streamed (stream t.0 t.1) 0 t.2))) (cond-true (is_good w field p) _ None good)
-
--- the data of a good payload: what the head and the field leave
-pub good_length : (w : ℕ) (field : List ℕ → List ℕ) (s : ℕ → ℕ) (p : List ℕ) → is_good w field p ≡ true → length (streamed s 0 (drop 5 (front w p))) ≡ length p - w - 5
-good_length w field s p good =
-    let six : 5 + w ≤ length p = leb-true (5 + w) (length p) (and_parts _ _ (and_parts _ _ good).0).0 in
-    streamed-length s 0 (drop 5 (front w p)) ∙ simp (length-drop, length-take) (omega arith)
 
 same_read : (r : ℕ) {n m : ℕ} {xs ys : List ℕ} → n ≡ m → xs ≡ ys → ◌≡◌ {A = Option (ℕ × ℕ × List ℕ)} (Some (r, n, xs)) (Some (r, m, ys))
 same_read r {m = m} {xs = xs} e f = ap (λ z. Some (r, z, xs)) e ∙ ap (λ z. Some (r, m, z)) f
