@@ -11,7 +11,7 @@ use protocol::Refusal;
 use std::alloc::{AllocError, Global};
 use suite::Suite;
 
-// What two logs came to: an entry for each call.
+/// What two logs came to: an entry for each call.
 #[derive(Drop)]
 pub struct Transcripts {
     pub one: Vec<Entry>,
@@ -30,8 +30,8 @@ fn places(alloc: Global, log: &[Logged<'_>]) -> Result<Vec<Entry>, AllocError>
     vec![in alloc; blank; log.len()]
 }
 
-// Makes the calls of two logs again, each to its entity, and tells what they answered and wrote, and the records that each user sent
-// and was handed, session by session. Memory is got first: where there is none, no call is made.
+/// Makes the calls of two logs again, each to its entity, and tells what they answered and wrote, and the records that each user sent
+/// and was handed, session by session. Memory is got first: where there is none, no call is made.
 #[tactic(auto, using(crate::proofs::Turns::written_back))]
 pub fn replay<S: Suite, T: Suite>(
     alloc: Global,

@@ -15,7 +15,7 @@ fn hands_over(entry: &Entry) -> bool
     )
 }
 
-// How many records the entries tell as handed, of all sessions together: what is charged where a user pays for what was handed.
+/// How many records the entries tell as handed, of all sessions together: what is charged where a user pays for what was handed.
 pub fn charged(entries: &[Entry]) -> usize
     ensures { result ≡ charged entries.now }
 {

@@ -4,7 +4,7 @@ use protocol::{Outcome, Refusal};
 
 mod bytes;
 
-// What a call wrote to the front of its buffer.
+/// What a call wrote to the front of its buffer.
 #[derive(Clone, Copy)]
 pub struct Written {
     bytes: [u8; 255],
@@ -12,14 +12,14 @@ pub struct Written {
     ghost fits: { length ≤ 255 },
 }
 
-// What became of the data of a record.
+/// What became of the data of a record.
 #[derive(Clone, Copy, Debug, PartialEq, Eq)]
 pub enum Way {
     Sent,
     Handed,
 }
 
-// A record that the user of an end sent, or was handed, in the session of that link key.
+/// A record that the user of an end sent, or was handed, in the session of that link key.
 #[derive(Clone, Copy)]
 pub struct Record {
     pub session: u32,
@@ -27,7 +27,7 @@ pub struct Record {
     pub plain: Written,
 }
 
-// What a call answered and wrote, and the record that it sent or handed out.
+/// What a call answered and wrote, and the record that it sent or handed out.
 #[derive(Clone, Copy)]
 pub struct Entry {
     pub answer: Result<Outcome, Refusal>,

@@ -23,6 +23,7 @@ impl Written {
         Written { bytes, length }
     }
 
+    /// The bytes that were written.
     pub fn bytes(&self) -> &[u8]
         ensures { result.now ≡ bytes_of self.now }
     {
