@@ -1,17 +1,18 @@
 ghost use Rattle.std.specs.Prelude.{◌≡◌, length, replicate};
 
-// Owed for a secret that is retrieved: whoever takes one out has to hand it in with the buffer, which is then all zeros. It can be
-// neither copied nor let go, and touches neither entity nor suite.
+/// Owed for a secret that is retrieved: whoever takes one out has to hand it in with the buffer, which is then all zeros. It can be
+/// neither copied nor let go, and touches neither entity nor suite.
 pub struct Slip {
     owed: (),
 }
 
 impl Slip {
+    /// Takes a slip out, at any time.
     pub fn take_out() -> Slip {
         Slip { owed: () }
     }
 
-    // Hands the slip in with the buffer into which the secret was written.
+    /// Hands the slip in with the buffer into which the secret was written.
     pub fn hand_in(self, buffer: &mut [u8])
         ensures { buffer.new ≡ replicate (length buffer.old) 0 }
     {

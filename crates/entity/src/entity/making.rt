@@ -11,8 +11,8 @@ use protocol::{Destroyed, State};
 use suite::{Role, Suite};
 
 impl<S: Suite> Entity<S> {
-    // A new entity, in Idle. The activation is used up: another entity takes another exchange. Whatever it is then called with, each call
-    // ends refused with nothing altered, or answered, a fault by an ERROR that tells it.
+    /// A new entity, in Idle. The activation is used up: another entity takes another exchange. Whatever it is then called with, each call
+    /// ends refused with nothing altered, or answered, a fault by an ERROR that tells it, with no key of the session left.
     pub fn new(_activation: Agreed, suite: S) -> Entity<S>
         ensures model { view S.meaning result ≡ fresh (S.meaning suite) }
         ensures ends { EveryCallEnds S.scheme }
@@ -30,7 +30,7 @@ impl<S: Suite> Entity<S> {
         }
     }
 
-    // Enters Idle, tells the keys destroyed, and hands back the suite.
+    /// Enters Idle, tells the serials of the keys destroyed (0 for none), and hands back the suite.
     pub fn put_away(mut self) -> (S, Destroyed)
         ensures suite { S.meaning result.0 ≡ (idle (view S.meaning self)).means }
         ensures destroyed { result.1 ≡ keys_of (view S.meaning self) }
@@ -50,13 +50,14 @@ impl<S: Suite> Entity<S> {
         (suite, destroyed)
     }
 
+    /// The state, after table 1 of the standard.
     pub fn state(&self) -> State
         ensures { result ≡ (view S.meaning self.now).state }
     {
         self.state
     }
 
-    // The number of the newest record; 0 where no link session runs.
+    /// The number of the newest record, sent or taken in; 0 where no link session runs.
     pub fn number(&self) -> u32
         ensures { result ≡ (view S.meaning self.now).number }
     {
