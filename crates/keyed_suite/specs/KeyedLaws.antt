@@ -14,7 +14,7 @@ tag_is : (key text : List ℕ) → Bytes16 (cmac key text)
 tag_is key text = record { long = tag-length (schedule key) text; bytes = tag-bytes (schedule key) text }
 
 -- the first eight bytes of a tag
-half-length : (key text : List ℕ) → length (take 8 (cmac key text)) ≡ 8
+pub half-length : (key text : List ℕ) → length (take 8 (cmac key text)) ≡ 8
 half-length key text = let long = tag-length (schedule key) text in simp length-take (omega arith)
 
 half-bytes : (key text : List ℕ) → Bytes (take 8 (cmac key text))

@@ -1,31 +1,53 @@
-ghost use Rattle.std.specs.Prelude.{◌≤◌};
+ghost use Rattle.std.specs.Prelude.{◌≡◌, ◌≤◌, true, is_some, Ok};
+ghost use Rattle.keyed_suite.specs.Keyed.{keyed_functions};
+ghost use Rattle.measured.specs.Returns.{gave, in_limits, returned, returned_under, unused};
+ghost use Rattle.suite.specs.Calls.{opened};
+ghost use Rattle.suite.specs.Meanings.{value_in};
+ghost use Rattle.suite.specs.declared.types.KeyKind.TheVariants.{LinkKey};
+ghost use Rattle.suite_of.specs.Kept.{meaning_of};
+ghost use Rattle.suite_of.specs.Kinds.{scheme_of};
 
 use keyed_suite::KeyedSuite;
 use suite::{Denial, Role, Suite};
 
 // A link key from a secret that two fixed seeds agree on.
-fn link(suite: &mut KeyedSuite) -> Result<u32, Denial> {
+fn link(suite: &mut KeyedSuite) -> Result<u32, Denial>
+    requires { meaning_of suite.old ≡ unused (meaning_of suite.old).root }
+    ensures serial { result ≡ Ok 2 }
+    ensures live { is_some (value_in (meaning_of suite.new).live LinkKey 2) ≡ true }
+{
     let secret = suite.agree(&[1; 16], &[2; 16], Role::Sender.byte())?;
     suite.derive(secret)
 }
 
-// Whether a record, sealed by the Sender, opens with its role, number and data.
-fn crosses(suite: &KeyedSuite, link: u32, number: u32, plain: &[u8]) -> bool {
-    let mut payload = [0; 255];
-    let Ok(length) = suite.seal(link, Role::Sender.byte(), number, plain, &mut payload) else {
-        return false;
-    };
+// Whether a payload opens as the Sender's record of that number and those data.
+fn opens(suite: &KeyedSuite, link: u32, payload: &[u8], number: u32, plain: &[u8]) -> bool
+    ensures { result ≡ gave number plain.now (opened (scheme_of keyed_functions) (meaning_of suite.now) link payload.now 255) }
+{
     let mut back = [0; 255];
-    match suite.open(link, &payload[..length.min(255)], &mut back) {
+    match suite.open(link, payload, &mut back) {
         Ok(Some((role, again, size))) => {
-            role == Role::Sender.byte() && again == number && &back[..size.min(255)] == plain
+            role == Role::Sender.byte() && again == number && &back[..size] == plain
         }
         _ => false,
     }
 }
 
+// Whether a record that the Sender seals opens as itself.
+fn crosses(suite: &KeyedSuite, link: u32, number: u32, plain: &[u8]) -> bool
+    requires { is_some (value_in (meaning_of suite.now).live LinkKey link) ≡ true }
+    ensures { result ≡ in_limits plain.now number }
+{
+    let mut payload = [0; 255];
+    match suite.seal(link, Role::Sender.byte(), number, plain, &mut payload) {
+        Ok(length) => opens(suite, link, &payload[..length], number, plain),
+        Err(_denial) => false,
+    }
+}
+
 fn crossings(suite: &KeyedSuite, link: u32, plain: &[u8], times: u32) -> u32
-    ensures { result ≤ times }
+    requires { is_some (value_in (meaning_of suite.now).live LinkKey link) ≡ true }
+    ensures { result ≡ returned plain.now times }
 {
     let mut crossed = 0;
     for before in 0..times {
@@ -40,7 +62,7 @@ fn crossings(suite: &KeyedSuite, link: u32, plain: &[u8], times: u32) -> u32
 // root that has not sixteen bytes.
 #[unsafe(no_mangle)]
 pub extern "C" fn measured_records(root: &[u8], plain: &[u8], times: u32) -> u32
-    ensures { result ≤ times }
+    ensures { result ≡ returned_under root.now plain.now times }
 {
     let Some(root) = root.as_array() else {
         return 0;

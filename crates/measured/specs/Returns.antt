@@ -1,0 +1,29 @@
+-- How many of the records that are sealed and opened for a measurement come back.
+use Rattle.std.specs.Prelude.{ℕ, Bool, false, cond, ◌&&◌, List, [], length, min, Ok, Err, Some, None, Option, Result, ◌==◌, nat_le}
+use Rattle.std.specs.Str.{bytes_eq}
+use Rattle.suite.specs.Meanings.{Meaning}
+use Rattle.suite.specs.Numbers.{role_byte}
+use Rattle.suite.specs.declared.types.Denial.{Denial}
+use Rattle.suite.specs.declared.types.Role.TheVariants.{Sender}
+
+-- what a suite with that root means before it has made a key
+abbrev pub unused : List ℕ → Meaning
+unused root = record { root = root; last = 4294967295; newest = 0; live = [] }
+
+-- whether opening gave the Sender's record of that number and those data
+abbrev pub gave : ℕ → List ℕ → Result (Option (ℕ × ℕ × List ℕ)) Denial → Bool
+gave n plain (Ok (Some t)) = (t.0 == role_byte Sender) && (t.1 == n) && bytes_eq t.2 plain
+gave n plain (Ok None) = false
+gave n plain (Err e) = false
+
+-- whether a record of these data and that number is within the limits of a suite
+abbrev pub in_limits : List ℕ → ℕ → Bool
+in_limits plain n = nat_le (length plain) 200 && nat_le n 16777215
+
+-- how many of the records of these data with the numbers from 1 to n come back: all that have a number within the limits of a suite
+abbrev pub returned : List ℕ → ℕ → ℕ
+returned plain n = cond (nat_le (length plain) 200) (min n 16777215) 0
+
+-- the same under a root: none, if it has not sixteen bytes
+abbrev pub returned_under : List ℕ → List ℕ → ℕ → ℕ
+returned_under root plain n = cond (length root == 16) (returned plain n) 0
