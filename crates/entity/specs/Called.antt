@@ -3,13 +3,18 @@ use Rattle.std.specs.Prelude.{ℕ}
 use Rattle.protocol.specs.Models as m
 use Rattle.protocol.specs.Calls as c
 use Rattle.entity.specs.declared.ancillary.Ancillary.{Ancillary}
+use Rattle.entity.specs.declared.ancillary.Fitted.{Fitted}
 use Rattle.entity.specs.declared.call.Call.{Call}
 use Rattle.entity.specs.declared.call.Call.TheVariants.{Invoke, Send, RetrieveData, RetrieveSecret, Terminate, Frame, Release}
 
+-- what a call brings beside a frame
 abbrev pub brought : Ancillary → m.Ancillary
-brought a = record { seed = a.seed.now }
+brought beside = record { seed = beside.seed.now }
 
--- with the length of the buffer that is lent beside
+abbrev pub fitted : Fitted → m.Ancillary
+fitted beside = record { seed = beside.seed.now }
+
+-- a call, with the length of the buffer that it is lent
 abbrev pub called : Call → ℕ → c.Call
 called (Invoke service pid seed) room = c.invoke service pid seed.now room
 called (Send plain) room = c.send plain.now room

@@ -1,4 +1,4 @@
--- What an entity is to the definitions, and what each call of it promises.
+-- What an entity is to the definitions.
 use Rattle.suite.specs.Meanings.{Meaning}
 use Rattle.protocol.specs.Models.{Model}
 use Rattle.entity.specs.declared.entity.Entity.{Entity}

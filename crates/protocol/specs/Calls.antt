@@ -1,6 +1,5 @@
 -- What each call of an entity answers, writes and leaves.
-use Rattle.std.specs.Prelude.{◌≡◌, ℕ, ◌+◌, ◌≤◌, Bool, false, cond, not, ◌&&◌, ◌||◌, List, [], ◌∷◌, length, Some, None, Ok, Err, Option, Result, IfOk, ◌==◌, nat_lt, nat_le}
-use Rattle.buffers.specs.Buffers.{over}
+use Rattle.std.specs.Prelude.{ℕ, ◌+◌, Bool, false, cond, not, ◌&&◌, ◌||◌, List, [], ◌∷◌, length, Some, None, Ok, Err, Option, Result, ◌==◌, nat_lt, nat_le}
 use Rattle.frame.specs.declared.types.Service.{Service}
 use Rattle.frame.specs.declared.types.Service.TheVariants.{Sse, Sch}
 use Rattle.frame.specs.declared.faults.CodecFault.{CodecFault}
@@ -21,9 +20,8 @@ use Rattle.protocol.specs.declared.refusals.Refusal.TheVariants as no
 use Rattle.protocol.specs.declared.faults.Fault.{Fault}
 use Rattle.protocol.specs.declared.faults.MachineFault.{MachineFault}
 use Rattle.protocol.specs.Numbers.{state_mark, cause_code, codec_of}
-use Rattle.protocol.specs.Outcomes.{quiet}
-use Rattle.protocol.specs.Models.{Model, Ancillary, secret_value, idle, keys_of}
-use Rattle.protocol.specs.Steps.{Step, said_by, is_empty, record_length, same_service, sealed_record, heard}
+use Rattle.protocol.specs.Models.{Model, Ancillary, secret_value}
+use Rattle.protocol.specs.Steps.{Effect, HasEffect, moved, entering_idle, Step, said_by, is_empty, record_length, same_service, sealed_record, heard}
 
 -- a call with its bytes; room is the length of the buffer that it may write
 pub data Call : Type 0 where
@@ -35,25 +33,19 @@ pub data Call : Type 0 where
   frame : (bytes : List ℕ) (beside : Ancillary) (room : ℕ) → Call
   release : Call
 
--- what a call leaves of the entity, what it answers, and what it writes to the front of the buffer
-pub record Turn : Type 0 where
-  pub model : Model
-  pub answer : Result Outcome Refusal
-  pub reply : List ℕ
+-- a call
+abbrev pub Turn : Type 0
+Turn = Effect Refusal
 
 abbrev pub refused : Model → Refusal → Turn
 refused m refusal = record { model = m; answer = Err refusal; reply = [] }
 
 abbrev pub done : Model → Confirmation → List ℕ → Turn
-done m confirmation reply = record { model = m; answer = Ok (quiet confirmation (length reply) 0); reply = reply }
+done m confirmation reply = moved m confirmation 0 reply
 
 -- the session ends
 abbrev pub ended : Model → Confirmation → List ℕ → Option Fault → Turn
-ended m confirmation reply f = record {
-  model = idle m;
-  answer = Ok (record { confirmation = confirmation; length = length reply; made = 0; destroyed = keys_of m; fault = f });
-  reply = reply;
-}
+ended m confirmation reply f = entering_idle m confirmation reply f
 
 -- Requests. Refusals are tried in the order in which they stand.
 
@@ -177,11 +169,6 @@ GivenBytes (terminate room) = Unit {0}
 GivenBytes (frame bytes a room) = Bytes bytes × Bytes a.seed
 GivenBytes release = Unit {0}
 
--- A call made, by the entity before and after, its result, and the buffer before and after. What is written lies within the buffer, and is no
--- longer than a frame.
-pub record Made (s : Scheme) (before : Model) (c : Call) (after : Model) (result : Result Outcome Refusal) (old new : List ℕ) : Type 0 where
-  pub model : after ≡ (turn s before c).model
-  pub answer : result ≡ (turn s before c).answer
-  pub buffer : new ≡ over (turn s before c).reply old
-  pub within : IfOk result (λ o. o.length ≤ length old)
-  pub short : IfOk result (λ o. o.length ≤ 255)
+-- a call made: what each call of an entity promises
+abbrev pub Made : Scheme → Model → Call → Model → Result Outcome Refusal → List ℕ → List ℕ → Type 0
+Made s before c after result old new = HasEffect before (turn s before c) after result old new

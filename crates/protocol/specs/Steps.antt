@@ -23,27 +23,47 @@ use Rattle.protocol.specs.declared.faults.SuiteFault.{SuiteFault}
 use Rattle.protocol.specs.declared.faults.SuiteFault.TheVariants.{OtherPid, BadOffer, NoKey, WrongCheck, BadRecord}
 use Rattle.protocol.specs.declared.faults.Cause.{Cause}
 use Rattle.protocol.specs.declared.faults.Cause.TheVariants.{Codec, NotAllowed, OtherService, Suite, WrongNumber}
+use Rattle.protocol.specs.declared.faults.Fault.{Fault}
 use Rattle.protocol.specs.declared.faults.MachineFault.{MachineFault}
 use Rattle.protocol.specs.Outcomes.{quiet}
 use Rattle.protocol.specs.Models.{Model, Ancillary, secret_value, link_value, idle, keys_of}
 
--- what a message leaves of the entity, its outcome or the fault that is met, and the bytes that it is answered by
-pub record Step : Type 0 where
+-- What is left of the entity, what is answered or why not, and the bytes that are written: by a call, which may be refused, and by the step of a
+-- message, which may meet a fault.
+pub record Effect (E : Type 0) : Type 0 where
   pub model : Model
-  pub answer : Result Outcome MachineFault
+  pub answer : Result Outcome E
   pub reply : List ℕ
 
 -- no fault, and no key destroyed
-abbrev pub moved : Model → Confirmation → ℕ → List ℕ → Step
+abbrev pub moved : {E : Type 0} → Model → Confirmation → ℕ → List ℕ → Effect E
 moved m confirmation made reply = record { model = m; answer = Ok (quiet confirmation (length reply) made); reply = reply }
+
+-- Idle is entered
+abbrev pub entering_idle : {E : Type 0} → Model → Confirmation → List ℕ → Option Fault → Effect E
+entering_idle m confirmation reply f = record {
+  model = idle m;
+  answer = Ok (record { confirmation = confirmation; length = length reply; made = 0; destroyed = keys_of m; fault = f });
+  reply = reply;
+}
+
+-- A call or step made, by the entity before and after, its result, and the buffer before and after. Without an outcome entity and buffer are as
+-- they were. What is written lies within the buffer, and is no longer than a frame.
+pub record HasEffect {E : Type 0} (before : Model) (effect : Effect E) (after : Model) (result : Result Outcome E) (old new : List ℕ) : Type 0 where
+  pub model : after ≡ effect.model
+  pub answer : result ≡ effect.answer
+  pub buffer : new ≡ over effect.reply old
+  pub untouched : IfErr result (λ e. (after ≡ before) × (new ≡ old))
+  pub within : IfOk result (λ o. o.length ≤ length old)
+  pub short : IfOk result (λ o. o.length ≤ 255)
+
+-- the step of a message
+abbrev pub Step : Type 0
+Step = Effect MachineFault
 
 -- the session ends, without a reply
 abbrev pub ended_by : Model → Confirmation → Step
-ended_by m confirmation = record {
-  model = idle m;
-  answer = Ok (record { confirmation = confirmation; length = 0; made = 0; destroyed = keys_of m; fault = None });
-  reply = [];
-}
+ended_by m confirmation = entering_idle m confirmation [] None
 
 -- a fault, with the state that it is met in
 abbrev pub fails : Model → Cause → Step
@@ -203,11 +223,3 @@ by_state s m a service state said = fails m NotAllowed
 abbrev pub heard : Scheme → Model → Ancillary → Result Parts CodecFault → Step
 heard s m a (Ok p) = by_state s m a p.service m.state p.said
 heard s m a (Err f) = fails m (Codec f)
-
--- A step made, by the entity before and after, its result, and the reply buffer before and after. A fault leaves entity and buffer as they were.
-pub record Stepped (before : Model) (step : Step) (after : Model) (result : Result Outcome MachineFault) (old new : List ℕ) : Type 0 where
-  pub model : after ≡ step.model
-  pub answer : result ≡ step.answer
-  pub buffer : new ≡ over step.reply old
-  pub untouched : IfErr result (λ f. (after ≡ before) × (new ≡ old))
-  pub short : IfOk result (λ o. o.length ≤ 255)

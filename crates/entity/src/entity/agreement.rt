@@ -1,5 +1,5 @@
 ghost use Rattle.std.specs.Prelude.{◌≤◌, length};
-ghost use Rattle.protocol.specs.Steps.{Stepped, on_act_req, on_act_res};
+ghost use Rattle.protocol.specs.Steps.{HasEffect, on_act_req, on_act_res};
 ghost use Rattle.entity.specs.Views.{view};
 
 use super::Entity;
@@ -20,7 +20,7 @@ impl<S: Suite> Entity<S> {
         reply: &mut [u8],
     ) -> Result<Outcome, MachineFault>
         requires { 255 ≤ length reply.old }
-        ensures { Stepped (view S.meaning self.old) (on_act_req S.scheme (view S.meaning self.old) service pid offer.now seed.now) (view S.meaning self.new) result reply.old reply.new }
+        ensures { HasEffect (view S.meaning self.old) (on_act_req S.scheme (view S.meaning self.old) service pid offer.now seed.now) (view S.meaning self.new) result reply.old reply.new }
     {
         if pid != S::numbers().pid {
             return Err(self.met(SuiteFault::OtherPid.into()));
@@ -46,7 +46,7 @@ impl<S: Suite> Entity<S> {
         reply: &mut [u8],
     ) -> Result<Outcome, MachineFault>
         requires { 255 ≤ length reply.old }
-        ensures { Stepped (view S.meaning self.old) (on_act_res S.scheme (view S.meaning self.old) offer.now) (view S.meaning self.new) result reply.old reply.new }
+        ensures { HasEffect (view S.meaning self.old) (on_act_res S.scheme (view S.meaning self.old) offer.now) (view S.meaning self.new) result reply.old reply.new }
     {
         let made = met_in(
             self.state,

@@ -1,6 +1,6 @@
 ghost use Rattle.std.specs.Prelude.{◌≡◌, ◌%◌, ◌≤◌, length, Ok};
-ghost use Rattle.buffers.specs.Buffers.{over};
 ghost use Rattle.protocol.specs.Models.{without_key, idle, keys_of};
+ghost use Rattle.protocol.specs.Steps.{HasEffect};
 ghost use Rattle.protocol.specs.Calls.{faulted, error_service};
 ghost use Rattle.entity.specs.Views.{view};
 
@@ -74,10 +74,7 @@ impl<S: Suite> Entity<S> {
     pub(super) fn fail(&mut self, sep: u8, fault: Fault, reply: &mut [u8]) -> Outcome
         requires room { 255 ≤ length reply.old }
         requires message { fault.message ≡ sep % 16 }
-        ensures model { view S.meaning self.new ≡ (faulted (view S.meaning self.old) sep fault.machine).model }
-        ensures answer { Ok result ≡ (faulted (view S.meaning self.old) sep fault.machine).answer }
-        ensures reply { reply.new ≡ over (faulted (view S.meaning self.old) sep fault.machine).reply reply.old }
-        ensures short { result.length ≤ 255 }
+        ensures { HasEffect (view S.meaning self.old) (faulted (view S.meaning self.old) sep fault.machine) (view S.meaning self.new) (Ok result) reply.old reply.new }
     {
         let code = fault.code();
         let service = error_service(self.service, sep, fault.machine.state);

@@ -2,15 +2,15 @@ ghost use Rattle.std.specs.Prelude.{◌≡◌, ◌%◌, ◌≤◌, length, IfErr
 ghost use Rattle.std.specs.Result.{result_map_both};
 ghost use Rattle.frame.specs.Frames.{fields, parts};
 ghost use Rattle.frame.specs.Reading.{reading};
-ghost use Rattle.protocol.specs.Steps.{Stepped, heard as heard_step};
+ghost use Rattle.protocol.specs.Steps.{HasEffect, heard as heard_step};
 ghost use Rattle.protocol.specs.Calls.{Made, frame as frame_call, blocked, admitted};
-ghost use Rattle.entity.specs.Called.{brought};
+ghost use Rattle.entity.specs.Called.{brought, fitted};
 ghost use Rattle.entity.specs.Views.{view};
 ghost use Rattle.entity.specs.Results.{heard_parts, machine_result};
 
 use super::Entity;
-use crate::ancillary::Ancillary;
-use crate::bytes::{has_room, sixteen};
+use crate::ancillary::{Ancillary, Fitted};
+use crate::bytes::has_room;
 use frame::{Body, CodecFault, Message, ReadError, read};
 use protocol::{Fault, Outcome, Refusal, State, at_message};
 use suite::Suite;
@@ -45,15 +45,15 @@ impl<S: Suite> Entity<S> {
         &mut self,
         sep: u8,
         heard: Result<Message<'_>, CodecFault>,
-        seed: &[u8; 16],
+        beside: Fitted<'_>,
         reply: &mut [u8],
     ) -> Result<Outcome, Fault>
         requires room { 255 ≤ length reply.old }
         requires short { IfOk heard (λ m. length (fields (parts m).said) ≤ 254) }
-        ensures step { Stepped (view S.meaning self.old) (heard_step S.scheme (view S.meaning self.old) (record { seed = seed.now }) (heard_parts heard.entry)) (view S.meaning self.new) (machine_result result) reply.old reply.new }
+        ensures step { HasEffect (view S.meaning self.old) (heard_step S.scheme (view S.meaning self.old) (fitted beside.entry) (heard_parts heard.entry)) (view S.meaning self.new) (machine_result result) reply.old reply.new }
         ensures message { IfErr result (λ f. f.message ≡ sep % 16) }
     {
-        Ok(at_message(sep % 16, self.step(heard, seed, reply))?)
+        Ok(at_message(sep % 16, self.step(heard, beside, reply))?)
     }
 
     /// A frame from the peer, 1 to 255 bytes, with what is brought beside it. The reply, if there is one, is to be sent; its buffer takes at
@@ -69,12 +69,12 @@ impl<S: Suite> Entity<S> {
         ensures { Made S.scheme (view S.meaning self.old) (frame_call frame.now (brought beside.entry) (length reply.old)) (view S.meaning self.new) result reply.old reply.new }
     {
         has_room(reply)?;
-        let seed = sixteen(beside.seed)?;
+        let beside = beside.fit()?;
         let [sep, ..] = frame else {
             return Err(Refusal::FrameLength);
         };
         let heard = self.admit(frame)?;
-        match self.hear(*sep, heard, seed, reply) {
+        match self.hear(*sep, heard, beside, reply) {
             Ok(outcome) => Ok(outcome),
             Err(fault) => Ok(self.fail(*sep, fault, reply)),
         }

@@ -1,10 +1,12 @@
 ghost use Rattle.std.specs.Prelude.{◌≡◌, ◌≤◌, length, IfOk};
 ghost use Rattle.frame.specs.Frames.{fields, parts};
-ghost use Rattle.protocol.specs.Steps.{Stepped, heard as heard_step};
+ghost use Rattle.protocol.specs.Steps.{HasEffect, heard as heard_step};
+ghost use Rattle.entity.specs.Called.{fitted};
 ghost use Rattle.entity.specs.Views.{view};
 ghost use Rattle.entity.specs.Results.{heard_parts, other_service};
 
 use super::Entity;
+use crate::ancillary::Fitted;
 use frame::{Body, CodecFault, Message, Service};
 use protocol::{Cause, Confirmation, MachineFault, Met, Outcome, State, met_in};
 use suite::Suite;
@@ -35,18 +37,18 @@ impl<S: Suite> Entity<S> {
     pub(super) fn step(
         &mut self,
         heard: Result<Message<'_>, CodecFault>,
-        seed: &[u8; 16],
+        beside: Fitted<'_>,
         reply: &mut [u8],
     ) -> Result<Outcome, MachineFault>
         requires room { 255 ≤ length reply.old }
         requires short { IfOk heard (λ m. length (fields (parts m).said) ≤ 254) }
-        ensures { Stepped (view S.meaning self.old) (heard_step S.scheme (view S.meaning self.old) (record { seed = seed.now }) (heard_parts heard.entry)) (view S.meaning self.new) result reply.old reply.new }
+        ensures { HasEffect (view S.meaning self.old) (heard_step S.scheme (view S.meaning self.old) (fitted beside.entry) (heard_parts heard.entry)) (view S.meaning self.new) result reply.old reply.new }
     {
         let Message { service, body } = met_in(self.state, heard)?;
         match (self.state, body) {
             (_, Body::Error(_)) => Ok(self.end(Confirmation::Error, 0, None)),
             (State::Idle, Body::ActReq(pid, offer)) => {
-                self.on_act_req(service, pid, offer, seed, reply)
+                self.on_act_req(service, pid, offer, beside.seed, reply)
             }
             (State::Select, Body::ActRes(offer)) => {
                 self.in_session(service)?;

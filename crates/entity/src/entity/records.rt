@@ -1,6 +1,6 @@
 ghost use Rattle.std.specs.Prelude.{◌≡◌, ◌≤◌, true, [], length, replicate};
 ghost use Rattle.protocol.specs.Models.{has_link};
-ghost use Rattle.protocol.specs.Steps.{Stepped, record_length, sequenced, on_enc};
+ghost use Rattle.protocol.specs.Steps.{HasEffect, record_length, sequenced, on_enc};
 ghost use Rattle.entity.specs.Views.{view};
 
 use super::Entity;
@@ -41,7 +41,7 @@ impl<S: Suite> Entity<S> {
     fn enter(&mut self, payload: &[u8], scratch: &mut [u8; 255]) -> Result<Outcome, MachineFault>
         requires state { has_link self.old.state ≡ true }
         requires payload { length payload.now ≤ 254 }
-        ensures { Stepped (view S.meaning self.old) (on_enc S.scheme (view S.meaning self.old) payload.now) (view S.meaning self.new) result [] [] }
+        ensures { HasEffect (view S.meaning self.old) (on_enc S.scheme (view S.meaning self.old) payload.now) (view S.meaning self.new) result [] [] }
     {
         let opened = met_in(self.state, self.open(payload, scratch))?;
         if !met_in(self.state, self.is_next(opened))? {
@@ -61,7 +61,7 @@ impl<S: Suite> Entity<S> {
     ) -> Result<Outcome, MachineFault>
         requires state { has_link self.old.state ≡ true }
         requires payload { length payload.now ≤ 254 }
-        ensures step { Stepped (view S.meaning self.old) (on_enc S.scheme (view S.meaning self.old) payload.now) (view S.meaning self.new) result [] [] }
+        ensures step { HasEffect (view S.meaning self.old) (on_enc S.scheme (view S.meaning self.old) payload.now) (view S.meaning self.new) result [] [] }
         ensures cleared { scratch.new ≡ replicate 255 0 }
     {
         let entered = self.enter(payload, scratch);
@@ -73,7 +73,7 @@ impl<S: Suite> Entity<S> {
     pub(super) fn on_enc(&mut self, payload: &[u8]) -> Result<Outcome, MachineFault>
         requires state { has_link self.old.state ≡ true }
         requires payload { length payload.now ≤ 254 }
-        ensures { Stepped (view S.meaning self.old) (on_enc S.scheme (view S.meaning self.old) payload.now) (view S.meaning self.new) result [] [] }
+        ensures { HasEffect (view S.meaning self.old) (on_enc S.scheme (view S.meaning self.old) payload.now) (view S.meaning self.new) result [] [] }
     {
         self.enter_cleanly(payload, &mut [0; 255])
     }

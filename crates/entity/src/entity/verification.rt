@@ -1,7 +1,7 @@
 ghost use Rattle.std.specs.Prelude.{◌≡◌, ◌≤◌, true, length, []};
 ghost use Rattle.std.specs.Str.{bytes_eq};
 ghost use Rattle.protocol.specs.Models.{has_secret};
-ghost use Rattle.protocol.specs.Steps.{Stepped, verified, confirmed, on_vfy_req, on_vfy_res};
+ghost use Rattle.protocol.specs.Steps.{HasEffect, verified, confirmed, on_vfy_req, on_vfy_res};
 ghost use Rattle.entity.specs.Views.{view};
 ghost use Rattle.entity.specs.Results.{made_for, model_after};
 
@@ -54,7 +54,7 @@ impl<S: Suite> Entity<S> {
     ) -> Result<Outcome, MachineFault>
         requires state { has_secret self.old.state ≡ true }
         requires room { 255 ≤ length reply.old }
-        ensures { Stepped (view S.meaning self.old) (on_vfy_req S.scheme (view S.meaning self.old) payload.now) (view S.meaning self.new) result reply.old reply.new }
+        ensures { HasEffect (view S.meaning self.old) (on_vfy_req S.scheme (view S.meaning self.old) payload.now) (view S.meaning self.new) result reply.old reply.new }
     {
         let state = self.state;
         met_in(state, self.verify(Role::Sender, payload))?;
@@ -68,7 +68,7 @@ impl<S: Suite> Entity<S> {
     // Established_Sender: the Sender compares.
     pub(super) fn on_vfy_res(&mut self, payload: &[u8]) -> Result<Outcome, MachineFault>
         requires { has_secret self.old.state ≡ true }
-        ensures { Stepped (view S.meaning self.old) (on_vfy_res S.scheme (view S.meaning self.old) payload.now) (view S.meaning self.new) result [] [] }
+        ensures { HasEffect (view S.meaning self.old) (on_vfy_res S.scheme (view S.meaning self.old) payload.now) (view S.meaning self.new) result [] [] }
     {
         let state = self.state;
         met_in(state, self.verify(Role::Recipient, payload))?;

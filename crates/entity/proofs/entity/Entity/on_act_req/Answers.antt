@@ -6,7 +6,7 @@ use Rattle.suite.specs.declared.types.Role.TheVariants.{Recipient}
 use Rattle.entity.proofs.entity.Entity.on_act_req.Goals as goal
 
 pub returns-in_err-made : goal.returns-in_err-made
-returns-in_err-made g c = record { model = search rules; answer = search rules; buffer = search rules; untouched = search rules; short = search rules }
+returns-in_err-made g c = record { model = search rules; answer = search rules; buffer = search rules; untouched = search rules; within = search rules; short = search rules }
 
 pub invariant_of-self-2 : goal.invariant_of-self-2
 invariant_of-self-2 g c =

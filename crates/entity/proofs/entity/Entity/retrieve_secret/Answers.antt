@@ -8,4 +8,4 @@ pub returns-else-out-lt16 : goal.returns-else-out-lt16
 returns-else-out-lt16 g c =
     let e = c.args.self.now in
     let long = secret_long (g.S.HasMeaning.meaning e.suite) e.secret (g.met.S.Suite.formed e.suite) (e.keys.secret_live (ap has_secret c.in-ConfirmedSse.is)) in
-    record { model = search rules; answer = search rules; buffer = search rules; within = search rules; short = search rules }
+    record { model = search rules; answer = search rules; buffer = search rules; untouched = search rules; within = search rules; short = search rules }
