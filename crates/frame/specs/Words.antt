@@ -27,7 +27,7 @@ message_words msg.Error = codes "ERROR, error"
 
 abbrev pub refusal_words : Refusal → List ℕ
 refusal_words ReplyBuffer = codes "the buffer has fewer than 255 bytes"
-refusal_words FrameLength = codes "a frame has 1 to 255 bytes, a TMN has nothing after SEP"
+refusal_words FrameLength = codes "a frame has 1 to 255 bytes, and a TMN nothing after SEP"
 
 -- the name of a fault: its letter and its digit
 abbrev pub code_words : FaultCode → List ℕ

@@ -31,7 +31,7 @@ impl fmt::Display for Refusal {
     fn fmt<W: fmt::Write>(&self, f: &mut fmt::Formatter<W>) -> fmt::Result {
         f.write_str(match self {
             Refusal::ReplyBuffer => "the buffer has fewer than 255 bytes",
-            Refusal::FrameLength => "a frame has 1 to 255 bytes, a TMN has nothing after SEP",
+            Refusal::FrameLength => "a frame has 1 to 255 bytes, and a TMN nothing after SEP",
         })
     }
 }

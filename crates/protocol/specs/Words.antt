@@ -32,7 +32,7 @@ confirmation_words conf.Dropped = codes "dropped"
 abbrev pub refusal_words : Refusal → List ℕ
 refusal_words no.ReplyBuffer = codes "the reply buffer has fewer than 255 bytes"
 refusal_words no.SeedLength = codes "a seed has 16 bytes"
-refusal_words no.FrameLength = codes "a frame has 1 to 255 bytes"
+refusal_words no.FrameLength = codes "a frame has 1 to 255 bytes, and a TMN nothing after SEP"
 refusal_words no.DataHeld = codes "the data of the record before is still held"
 refusal_words no.WrongState = codes "the request is not allowed in this state"
 refusal_words no.OtherPid = codes "the PID is not the suite's"

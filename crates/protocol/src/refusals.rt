@@ -46,7 +46,7 @@ impl fmt::Display for Refusal {
         f.write_str(match self {
             Refusal::ReplyBuffer => "the reply buffer has fewer than 255 bytes",
             Refusal::SeedLength => "a seed has 16 bytes",
-            Refusal::FrameLength => "a frame has 1 to 255 bytes",
+            Refusal::FrameLength => "a frame has 1 to 255 bytes, and a TMN nothing after SEP",
             Refusal::DataHeld => "the data of the record before is still held",
             Refusal::WrongState => "the request is not allowed in this state",
             Refusal::OtherPid => "the PID is not the suite's",
