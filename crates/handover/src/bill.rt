@@ -2,7 +2,7 @@
 use super::log::Made;
 use super::stopped::Stopped;
 use entity::Entity;
-use replay::{Call, Entry, Record, Way, charged, replay};
+use replay::{Entry, Logged, Record, Way, charged, replay};
 use std::alloc::{AllocError, Global};
 use suite::Suite;
 
@@ -13,8 +13,8 @@ pub(super) struct Logs {
     pub(super) controller: Vec<Made>,
 }
 
-fn calls(alloc: Global, log: &[Made]) -> Result<Vec<Call<'_>>, AllocError> {
-    log.iter().map(|made| made.call()).collect(alloc)
+fn calls(alloc: Global, log: &[Made]) -> Result<Vec<Logged<'_>>, AllocError> {
+    log.iter().map(|made| made.logged()).collect(alloc)
 }
 
 fn show(rt: &HostRuntime, name: &str, record: &Record) -> Result<(), Stopped> {

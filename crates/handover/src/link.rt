@@ -13,11 +13,12 @@ pub(super) fn activate<S: Suite, T: Suite>(
     handset: &mut Station<S>,
     controller: &mut Station<T>,
 ) -> Result<(), Stopped> {
-    handset.invoke(Service::Sch, KEYED)?;
-    controller.hear(&handset.frame())?;
-    handset.hear(&controller.frame())?;
-    controller.hear(&handset.frame())?;
-    handset.hear(&controller.frame())
+    let act_req = handset.invoke(Service::Sch, KEYED)?;
+    let act_res = controller.hear(&act_req)?;
+    let vfy_req = handset.hear(&act_res)?;
+    let vfy_res = controller.hear(&vfy_req)?;
+    handset.hear(&vfy_res)?;
+    Ok(())
 }
 
 // The same frame is sent until it has arrived; whatever else comes of it is heard too.
@@ -26,18 +27,21 @@ pub(super) fn hand_over<S: Suite, T: Suite>(
     to: &mut Station<T>,
     record: &Record,
 ) -> Result<(), Stopped> {
-    from.send(record.text)?;
-    let frame = from.frame();
+    let enc = from.send(record.text)?;
     for fate in record.fates {
         match fate {
             Fate::Lost => from.lost()?,
-            Fate::Echoed => from.hear(&frame)?,
-            Fate::Arrives => to.hear(&frame)?,
+            Fate::Echoed => {
+                from.hear(&enc)?;
+            }
+            Fate::Arrives => {
+                to.hear(&enc)?;
+            }
         }
     }
     to.retrieve()?;
     if record.late {
-        to.hear(&frame)?;
+        to.hear(&enc)?;
     }
     Ok(())
 }
@@ -46,6 +50,7 @@ pub(super) fn terminate<S: Suite, T: Suite>(
     from: &mut Station<S>,
     to: &mut Station<T>,
 ) -> Result<(), Stopped> {
-    from.terminate()?;
-    to.hear(&from.frame())
+    let tmn = from.terminate()?;
+    to.hear(&tmn)?;
+    Ok(())
 }

@@ -1,40 +1,61 @@
-// What a station keeps of the calls that its entity got.
-use super::station::{Frame, OWN_SEED, SPARE_SEED};
-use frame::{MAX_FRAME, Service};
-use replay::Call;
+// The log of a station: the calls that its entity got, with their bytes.
+ghost use Rattle.std.specs.Prelude.{◌≤◌, IfOk};
 
-// A call with its bytes.
+use entity::{Ancillary, Call};
+use frame::MAX_FRAME;
+use protocol::{Outcome, Refusal};
+use replay::Logged;
+
+// Fixed seeds, so that a run can be followed. A device draws a new one each time.
+pub(super) const OWN_SEED: [u8; 16] = [0x5A; 16];
+
+const SPARE_SEED: [u8; 16] = [0xA5; 16];
+
+// What a call wrote to its buffer: a frame, or data. No call writes more than 255 bytes, so the length is a byte.
+#[derive(Clone, Copy)]
+pub(super) struct Frame {
+    bytes: [u8; MAX_FRAME],
+    length: u8,
+}
+
+impl Frame {
+    pub(super) fn new(answer: Result<Outcome, Refusal>, bytes: [u8; MAX_FRAME]) -> Frame
+        requires { IfOk answer (λ o. o.length ≤ 255) }
+    {
+        let length = match answer {
+            Ok(outcome) => outcome.length as u8,
+            Err(_refusal) => 0,
+        };
+        Frame { bytes, length }
+    }
+
+    pub(super) fn bytes(&self) -> &[u8] {
+        &self.bytes[..usize::from(self.length)]
+    }
+}
+
+// A call of a station's entity.
 #[derive(Clone, Copy)]
 pub(super) enum Made {
-    Invoke(Service, u8),
+    // With a frame from the other device.
     Heard(Frame),
-    Sent(&'static str),
-    Retrieved,
-    Terminated,
+    // By the user, with bytes that stand in the program.
+    Asked(Call<'static>),
 }
 
 impl Made {
     // The call as a replay takes it.
-    pub(super) fn call(&self) -> Call<'_> {
-        let room = MAX_FRAME;
-        match self {
-            Made::Invoke(service, pid) => Call::Invoke {
-                service: *service,
-                pid: *pid,
-                seed: &OWN_SEED,
-                room,
-            },
+    pub(super) fn logged(&self) -> Logged<'_> {
+        let call = match self {
             Made::Heard(frame) => Call::Frame {
                 bytes: frame.bytes(),
-                seed: &SPARE_SEED,
-                room,
+                beside: Ancillary { seed: &SPARE_SEED },
             },
-            Made::Sent(record) => Call::Send {
-                plain: record.as_bytes(),
-                room,
-            },
-            Made::Retrieved => Call::RetrieveData { room },
-            Made::Terminated => Call::Terminate { room },
+            Made::Asked(call) => *call,
+        };
+        Logged {
+            call,
+            room: MAX_FRAME,
         }
     }
 }

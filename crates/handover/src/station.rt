@@ -1,38 +1,28 @@
 // A device with its entity. Each call is noted in a log, and prints a line: the call, what it answered and wrote, and where it left the
 // entity.
-use super::log::Made;
+use super::log::{Frame, Made, OWN_SEED};
 use super::stopped::Stopped;
 use activation::Agreed;
-use entity::Entity;
+use entity::{Call, Entity, Slip};
 use frame::{MAX_FRAME, Service};
 use protocol::{Destroyed, Fault, Outcome, Refusal};
 use std::alloc::AllocError;
 use suite::Suite;
 
-// Fixed seeds, so that a run can be followed. A device draws a new one each time.
-pub(super) const OWN_SEED: [u8; 16] = [0x5A; 16];
-
-pub(super) const SPARE_SEED: [u8; 16] = [0xA5; 16];
-
-// The frame that a device sent last.
-#[derive(Clone, Copy)]
-pub(super) struct Frame {
-    bytes: [u8; MAX_FRAME],
-    length: usize,
+// Makes a call, and tells what it answered and wrote.
+fn ask<S: Suite>(entity: &mut Entity<S>, call: &Call<'_>) -> (Result<Outcome, Refusal>, Frame) {
+    let slip = Slip::take_out();
+    let mut buffer = [0; MAX_FRAME];
+    let answer = entity.call(call, &slip, &mut buffer);
+    let wrote = Frame::new(answer, buffer);
+    slip.hand_in(&mut buffer);
+    (answer, wrote)
 }
 
-impl Frame {
-    // Cut at the buffer's end: each call promises that its length is within, but what is kept here does not carry that.
-    pub(super) fn bytes(&self) -> &[u8] {
-        &self.bytes[..self.length.min(MAX_FRAME)]
-    }
-}
-
-pub(super) struct Station<'a, S> {
+pub(super) struct Station<'a, S: Suite> {
     rt: &'a HostRuntime,
     name: &'static str,
     entity: Entity<S>,
-    last: Frame,
     log: Vec<Made>,
 }
 
@@ -47,10 +37,6 @@ impl<'a, S: Suite> Station<'a, S> {
             rt,
             name,
             entity: Entity::new(activation, suite),
-            last: Frame {
-                bytes: [0; MAX_FRAME],
-                length: 0,
-            },
             log: Vec::new(rt.alloc()),
         }
     }
@@ -61,19 +47,9 @@ impl<'a, S: Suite> Station<'a, S> {
             rt: _,
             name: _,
             entity,
-            last: _,
             log,
         } = self;
         (entity, log)
-    }
-
-    // Notes a call that is about to be made.
-    fn note(&mut self, made: Made) -> Result<(), Stopped> {
-        Ok(self.log.push(made).map_err(AllocError::from)?)
-    }
-
-    pub(super) fn frame(&self) -> Frame {
-        self.last
     }
 
     fn fault_text(&self, fault: Option<Fault>) -> Result<String, AllocError> {
@@ -115,13 +91,13 @@ impl<'a, S: Suite> Station<'a, S> {
         &self,
         call: &str,
         answer: Result<Outcome, Refusal>,
-        wrote: &Frame,
+        wrote: &[u8],
     ) -> Result<(), Stopped> {
         let name = self.name;
         let state = self.entity.state();
         let number = self.entity.number();
         let text = match answer {
-            Ok(outcome) => self.outcome_text(outcome, wrote.bytes())?,
+            Ok(outcome) => self.outcome_text(outcome, wrote)?,
             Err(refusal) => {
                 let number = refusal.number();
                 format!(in self.rt.alloc(); "refused {number}, {refusal}")?
@@ -130,53 +106,36 @@ impl<'a, S: Suite> Station<'a, S> {
         Ok(println!(self.rt; "  {name} {call}: {text}; {state}, number {number}")?)
     }
 
-    // Prints a call, and keeps the frame that it wrote.
-    fn keep(
-        &mut self,
-        call: &str,
-        answer: Result<Outcome, Refusal>,
-        bytes: [u8; MAX_FRAME],
-    ) -> Result<(), Stopped> {
-        let length = answer.map_or(0, |outcome| outcome.length);
-        self.last = Frame { bytes, length };
-        self.says(call, answer, &self.last)
+    // Notes a call, makes it and prints it.
+    fn make(&mut self, call: &str, made: Made) -> Result<Frame, Stopped> {
+        self.log.push(made).map_err(AllocError::from)?;
+        let (answer, wrote) = ask(&mut self.entity, &made.logged().call);
+        self.says(call, answer, wrote.bytes())?;
+        Ok(wrote)
     }
 
-    pub(super) fn invoke(&mut self, service: Service, pid: u8) -> Result<(), Stopped> {
-        self.note(Made::Invoke(service, pid))?;
-        let mut reply = [0; MAX_FRAME];
-        let answer = self.entity.invoke(service, pid, &OWN_SEED, &mut reply);
-        self.keep("invoke", answer, reply)
+    pub(super) fn invoke(&mut self, service: Service, pid: u8) -> Result<Frame, Stopped> {
+        let seed = &OWN_SEED;
+        self.make("invoke", Made::Asked(Call::Invoke { service, pid, seed }))
     }
 
-    pub(super) fn hear(&mut self, frame: &Frame) -> Result<(), Stopped> {
-        self.note(Made::Heard(*frame))?;
-        let mut reply = [0; MAX_FRAME];
-        let answer = self.entity.frame(frame.bytes(), &SPARE_SEED, &mut reply);
-        self.keep("frame", answer, reply)
+    pub(super) fn hear(&mut self, frame: &Frame) -> Result<Frame, Stopped> {
+        self.make("frame", Made::Heard(*frame))
     }
 
-    pub(super) fn send(&mut self, record: &'static str) -> Result<(), Stopped> {
-        self.note(Made::Sent(record))?;
-        let mut reply = [0; MAX_FRAME];
-        let answer = self.entity.send(record.as_bytes(), &mut reply);
-        self.keep("send", answer, reply)
+    pub(super) fn send(&mut self, record: &'static str) -> Result<Frame, Stopped> {
+        let plain = record.as_bytes();
+        self.make("send", Made::Asked(Call::Send { plain }))
     }
 
-    pub(super) fn terminate(&mut self) -> Result<(), Stopped> {
-        self.note(Made::Terminated)?;
-        let mut reply = [0; MAX_FRAME];
-        let answer = self.entity.terminate(&mut reply);
-        self.keep("terminate", answer, reply)
+    pub(super) fn terminate(&mut self) -> Result<Frame, Stopped> {
+        self.make("terminate", Made::Asked(Call::Terminate))
     }
 
-    // The data handed out is no frame, and is not kept.
+    // The data handed out is printed. It is no frame.
     pub(super) fn retrieve(&mut self) -> Result<(), Stopped> {
-        self.note(Made::Retrieved)?;
-        let mut bytes = [0; MAX_FRAME];
-        let answer = self.entity.retrieve_data(&mut bytes);
-        let length = answer.map_or(0, |outcome| outcome.length);
-        self.says("data", answer, &Frame { bytes, length })
+        let _data = self.make("data", Made::Asked(Call::RetrieveData))?;
+        Ok(())
     }
 
     pub(super) fn lost(&self) -> Result<(), Stopped> {
