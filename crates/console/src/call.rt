@@ -1,6 +1,7 @@
-// A call of a script.
+// What a script has a peer do.
 use super::stopped::Unreadable;
 use super::words::{byte, bytes, size};
+use entity::{Ancillary, Call};
 use frame::Service;
 use std::alloc::Global;
 use std::fmt;
@@ -46,9 +47,16 @@ impl Heard {
             _ => Ok(Heard::Bytes(bytes(heap, word)?)),
         }
     }
+
+    fn bytes<'a>(&'a self, latest: &'a [u8]) -> &'a [u8] {
+        match self {
+            Heard::Latest => latest,
+            Heard::Bytes(bytes) => bytes,
+        }
+    }
 }
 
-// What an entity answers by a frame.
+// A call of an entity, with its bytes.
 #[derive(Drop)]
 pub(super) enum Request {
     Invoke {
@@ -57,11 +65,14 @@ pub(super) enum Request {
         seed: Vec<u8>,
     },
     Send(Vec<u8>),
+    Data,
+    Secret,
     Terminate,
     Frame {
         heard: Heard,
         seed: Vec<u8>,
     },
+    Release,
 }
 
 fn service(word: &str) -> Result<Service, Unreadable> {
@@ -81,6 +92,8 @@ impl Request {
                 seed: bytes(heap, seed)?,
             }),
             ["send", plain] => Ok(Request::Send(bytes(heap, plain)?)),
+            ["data"] => Ok(Request::Data),
+            ["secret"] => Ok(Request::Secret),
             ["terminate"] => Ok(Request::Terminate),
             ["frame", frame, seed] => Ok(Request::Frame {
                 heard: Heard::read(heap, frame)?,
@@ -89,60 +102,82 @@ impl Request {
             _ => Err(Unreadable::NoSuchLine),
         }
     }
+
+    // The call as an entity takes it, where the other peer answered that frame last.
+    pub(super) fn call<'a>(&'a self, latest: &'a [u8]) -> Call<'a> {
+        match self {
+            Request::Invoke { service, pid, seed } => Call::Invoke {
+                service: *service,
+                pid: *pid,
+                seed,
+            },
+            Request::Send(plain) => Call::Send { plain },
+            Request::Data => Call::RetrieveData,
+            Request::Secret => Call::RetrieveSecret,
+            Request::Terminate => Call::Terminate,
+            Request::Frame { heard, seed } => Call::Frame {
+                bytes: heard.bytes(latest),
+                beside: Ancillary { seed },
+            },
+            Request::Release => Call::Release,
+        }
+    }
+
+    // Whether what it writes is a frame for the other peer, and not data or a secret.
+    pub(super) fn writes_frame(&self) -> bool {
+        !matches!(self, Request::Data | Request::Secret)
+    }
 }
 
-// A call, with the length of the buffer that it may write.
+// What a peer is to do.
 #[derive(Drop)]
-pub(super) enum Call {
+pub(super) enum Action {
+    // A call, with the length of the buffer that it may write.
     Request(Request, usize),
-    Data(usize),
-    Secret(usize),
-    Release,
+    // The entity is put away.
     Away,
 }
 
-impl Call {
-    fn read(heap: Global, words: &[&str]) -> Result<Call, Unreadable> {
+impl Action {
+    fn read(heap: Global, words: &[&str]) -> Result<Action, Unreadable> {
         match words {
-            ["release"] => Ok(Call::Release),
-            ["away"] => Ok(Call::Away),
-            ["data", room] => Ok(Call::Data(size(room)?)),
-            ["secret", room] => Ok(Call::Secret(size(room)?)),
-            [request @ .., room] => Ok(Call::Request(Request::read(heap, request)?, size(room)?)),
+            ["release"] => Ok(Action::Request(Request::Release, 0)),
+            ["away"] => Ok(Action::Away),
+            [request @ .., room] => Ok(Action::Request(Request::read(heap, request)?, size(room)?)),
             [] => Err(Unreadable::NoSuchLine),
         }
     }
 }
 
-// The word by which a script makes the call.
-impl fmt::Display for Call {
+// The word by which a script has it done.
+impl fmt::Display for Action {
     fn fmt<W: fmt::Write>(&self, f: &mut fmt::Formatter<W>) -> fmt::Result {
         f.write_str(match self {
-            Call::Request(Request::Invoke { .. }, _) => "invoke",
-            Call::Request(Request::Send(_), _) => "send",
-            Call::Request(Request::Terminate, _) => "terminate",
-            Call::Request(Request::Frame { .. }, _) => "frame",
-            Call::Data(_) => "data",
-            Call::Secret(_) => "secret",
-            Call::Release => "release",
-            Call::Away => "away",
+            Action::Request(Request::Invoke { .. }, _) => "invoke",
+            Action::Request(Request::Send(_), _) => "send",
+            Action::Request(Request::Data, _) => "data",
+            Action::Request(Request::Secret, _) => "secret",
+            Action::Request(Request::Terminate, _) => "terminate",
+            Action::Request(Request::Frame { .. }, _) => "frame",
+            Action::Request(Request::Release, _) => "release",
+            Action::Away => "away",
         })
     }
 }
 
-// One peer's call.
+// One peer's turn.
 #[derive(Drop)]
 pub(super) struct Step {
     pub(super) peer: Name,
-    pub(super) call: Call,
+    pub(super) action: Action,
 }
 
 impl Step {
     pub(super) fn read(heap: Global, words: &[&str]) -> Result<Step, Unreadable> {
         match words {
-            [peer, call @ ..] => Ok(Step {
+            [peer, action @ ..] => Ok(Step {
                 peer: Name::read(peer)?,
-                call: Call::read(heap, call)?,
+                action: Action::read(heap, action)?,
             }),
             [] => Err(Unreadable::NoSuchLine),
         }

@@ -1,16 +1,17 @@
 // A peer with its entity. Each call of it prints a line.
+ghost use Rattle.std.specs.Prelude.{◌≤◌, length, IfOk};
+
 use super::answer::Gone;
-use super::call::{Call, Heard, Request};
+use super::call::{Action, Request};
 use super::printer::Printer;
 use super::stack::Stack;
 use activation::Agreed;
 use entity::{Entity, Slip};
 use protocol::{Destroyed, Outcome, Refusal};
-use std::alloc::AllocError;
 use std::io;
 use suite::Suite;
 
-pub(super) struct Peer<'a, S> {
+pub(super) struct Peer<'a, S: Suite> {
     printer: Printer<'a>,
     // None where the activation was refused, and once the entity is put away.
     entity: Option<Entity<S>>,
@@ -18,37 +19,23 @@ pub(super) struct Peer<'a, S> {
     latest: Vec<u8>,
 }
 
-// What a call wrote to the front of its buffer. Cut at the buffer's end: that it is within follows from what was written, by a lemma that a
-// program need not carry.
-fn written(buffer: &[u8], answer: Result<Outcome, Refusal>) -> &[u8] {
-    let length = answer.map_or(0, |outcome| outcome.length);
-    &buffer[..length.min(buffer.len())]
-}
-
-fn ask<S: Suite>(
-    entity: &mut Entity<S>,
-    request: &Request,
-    latest: &[u8],
-    buffer: &mut [u8],
-) -> Result<Outcome, Refusal> {
-    match request {
-        Request::Invoke { service, pid, seed } => entity.invoke(*service, *pid, seed, buffer),
-        Request::Send(plain) => entity.send(plain, buffer),
-        Request::Terminate => entity.terminate(buffer),
-        Request::Frame { heard, seed } => match heard {
-            Heard::Latest => entity.frame(latest, seed, buffer),
-            Heard::Bytes(frame) => entity.frame(frame, seed, buffer),
-        },
+// What a call wrote to the front of its buffer.
+fn written(buffer: &[u8], answer: Result<Outcome, Refusal>) -> &[u8]
+    requires { IfOk answer (λ o. o.length ≤ length buffer.now) }
+{
+    match answer {
+        Ok(outcome) => &buffer[..outcome.length],
+        Err(_refusal) => &[],
     }
 }
 
-// Keeps the frame that was answered; there is none without a byte.
-fn keep(latest: &mut Vec<u8>, frame: &[u8]) -> Result<(), AllocError> {
-    if frame.is_empty() {
+// Keeps the frame that was answered, where a call wrote one.
+fn keep(latest: &mut Vec<u8>, request: &Request, wrote: &[u8]) -> io::Result<()> {
+    if wrote.is_empty() || !request.writes_frame() {
         return Ok(());
     }
     latest.clear();
-    latest.extend_from_slice(frame)
+    Ok(latest.extend_from_slice(wrote)?)
 }
 
 // Puts an entity away and closes its suite.
@@ -89,39 +76,25 @@ impl<'a, S: Stack> Peer<'a, S> {
         &self.latest
     }
 
-    // Makes a call, for which the other peer's latest frame is at hand.
-    pub(super) fn play(&mut self, call: &Call, heard: &[u8]) -> io::Result<()> {
+    // Does what the script says, while the other peer's latest frame is at hand.
+    pub(super) fn play(&mut self, action: &Action, latest: &[u8]) -> io::Result<()> {
         let printer = self.printer;
-        let alloc = printer.rt.alloc();
-        match (call, &mut self.entity) {
-            (_, None) => printer.says(call, &"no entity"),
-            (Call::Away, place) => {
+        match (action, &mut self.entity) {
+            (_, None) => printer.says(action, &"no entity"),
+            (Action::Away, place) => {
                 let destroyed = place.take().map_or(Destroyed::nothing(), put_away);
-                printer.says(call, &Gone(destroyed))
+                printer.says(action, &Gone(destroyed))
             }
-            (Call::Release, Some(entity)) => {
-                let outcome = entity.release();
-                printer.answered(call, entity, Ok(outcome), &[])
-            }
-            (Call::Request(request, size), Some(entity)) => {
-                let mut buffer = vec![in alloc; 0; *size]?;
-                let answer = ask(entity, request, heard, &mut buffer);
-                let frame = written(&buffer, answer);
-                keep(&mut self.latest, frame)?;
-                printer.answered(call, entity, answer, frame)
-            }
-            (Call::Data(size), Some(entity)) => {
-                let mut buffer = vec![in alloc; 0; *size]?;
-                let answer = entity.retrieve_data(&mut buffer);
-                printer.answered(call, entity, answer, written(&buffer, answer))
-            }
-            (Call::Secret(size), Some(entity)) => {
-                let mut buffer = vec![in alloc; 0; *size]?;
+            (Action::Request(request, size), Some(entity)) => {
+                let mut buffer = vec![in printer.rt.alloc(); 0; *size]?;
                 let slip = Slip::take_out();
-                let answer = entity.retrieve_secret(&slip, &mut buffer);
-                let printed = printer.answered(call, entity, answer, written(&buffer, answer));
+                let answer = entity.call(&request.call(latest), &slip, &mut buffer);
+                let wrote = written(&buffer, answer);
+                let told = keep(&mut self.latest, request, wrote).and_then(|()| printer.answered(
+                    action, entity, answer, wrote,
+                ));
                 slip.hand_in(&mut buffer);
-                printed
+                told
             }
         }
     }

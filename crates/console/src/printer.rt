@@ -1,6 +1,6 @@
 // Prints the lines of a peer.
 use super::answer::Answer;
-use super::call::{Call, Name};
+use super::call::{Action, Name};
 use entity::Entity;
 use protocol::{Outcome, Refusal};
 use std::{fmt, io};
@@ -25,7 +25,7 @@ impl<'a> Printer<'a> {
     // Prints what a call of an entity answered, and where it left the entity.
     pub(super) fn answered<S: Suite>(
         &self,
-        call: &Call,
+        action: &Action,
         entity: &Entity<S>,
         answer: Result<Outcome, Refusal>,
         bytes: &[u8],
@@ -41,6 +41,6 @@ impl<'a> Printer<'a> {
             state: entity.state(),
             number: entity.number(),
         };
-        self.says(call, &answer)
+        self.says(action, &answer)
     }
 }

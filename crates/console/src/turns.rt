@@ -48,8 +48,8 @@ fn activate(printer: Printer<'_>, own: Side, other: Side) -> io::Result<Option<A
 fn turns<S: Stack>(steps: &[Step], a: &mut Peer<S>, b: &mut Peer<S>) -> io::Result<()> {
     for step in steps {
         match step.peer {
-            Name::A => a.play(&step.call, b.latest())?,
-            Name::B => b.play(&step.call, a.latest())?,
+            Name::A => a.play(&step.action, b.latest())?,
+            Name::B => b.play(&step.action, a.latest())?,
         }
     }
     Ok(())
