@@ -21,12 +21,6 @@ impl fmt::Display for Key {
     }
 }
 
-// The part of a buffer that a call wrote, by the length that it answered. Cut at the buffer's: that the length is within it follows
-// from what was written, by a lemma that a program need not carry.
-fn written(out: &[u8; 255], length: usize) -> &[u8] {
-    &out[..length.min(255)]
-}
-
 pub(super) struct Peer<'a, S> {
     rt: &'a HostRuntime,
     role: Role,
@@ -67,7 +61,7 @@ impl<'a, S: Suite> Peer<'a, S> {
 
     pub(super) fn offer<'b>(&self, out: &'b mut [u8; 255]) -> Result<&'b [u8], Stopped> {
         let length = self.suite.offer(&self.seed(), out)?;
-        let offer = written(out, length);
+        let offer = &out[..length];
         self.says_bytes("offers", offer)?;
         Ok(offer)
     }
@@ -88,7 +82,7 @@ impl<'a, S: Suite> Peer<'a, S> {
         let length = self
             .suite
             .check(secret.serial, Role::Sender.byte(), &mut out)?;
-        self.says_bytes("has the Sender's check value", written(&out, length))?;
+        self.says_bytes("has the Sender's check value", &out[..length])?;
         Ok(())
     }
 
@@ -111,7 +105,7 @@ impl<'a, S: Suite> Peer<'a, S> {
         let length = self
             .suite
             .seal(link.serial, self.role.byte(), 1, record, out)?;
-        let payload = written(out, length);
+        let payload = &out[..length];
         self.says_bytes("seals", payload)?;
         Ok(payload)
     }
@@ -119,7 +113,7 @@ impl<'a, S: Suite> Peer<'a, S> {
     pub(super) fn open(&self, link: Key, payload: &[u8]) -> Result<(), Stopped> {
         let mut out = [0; 255];
         match self.suite.open(link.serial, payload, &mut out)? {
-            Some((_role, _number, length)) => self.says_bytes("opens", written(&out, length))?,
+            Some((_role, _number, length)) => self.says_bytes("opens", &out[..length])?,
             None => self.says_bytes("finds not good", payload)?,
         }
         Ok(())
