@@ -59,7 +59,7 @@ Says Destroyed keys kind n = is_live keys n ≡ false
 abbrev pub TrueOf : List Key → Row → Type 0
 TrueOf keys r = Says r.mark keys r.kind r.serial
 
--- The rows of a ledger, by what the suite under it means: one for each of the keys made last, in the order made. A row is marked live
+-- The rows of a ledger, by what it means: one for each of the keys made last, in the order made. A row is marked live
 -- just where its key is, and has its kind then.
 pub record Told (m : Meaning) (rows : List Row) : Type 0 where
   pub count : length rows ≤ m.newest
