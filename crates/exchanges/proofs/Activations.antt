@@ -8,6 +8,7 @@ use Rattle.frame.specs.Frames.{Said, fields, act_req, act_res, vfy_req, vfy_res}
 use Rattle.suite.specs.declared.types.Role.TheVariants.{Sender, Recipient}
 use Rattle.suite.specs.Meanings.{Meaning, Keyring, keyring_of, Bytes, Bytes16, WellFormed}
 use Rattle.suite.specs.Schemes.{Scheme, Under, Lawful, ok_role}
+use Rattle.suite.proofs.CallLaws.{room_enough}
 use Rattle.protocol.specs.declared.states.State.{State}
 use Rattle.protocol.specs.declared.states.State.TheVariants.{EstablishedSender, EstablishedRecipient, ConfirmedSse}
 use Rattle.protocol.specs.declared.outcomes.Confirmation.TheVariants as conf
@@ -148,7 +149,7 @@ module _ (s : Scheme) (law : Lawful s) (free : OfRootAndValue s) (root : List �
   -- there is room, and nothing is too long
 
   wide : ltb room 255 ≡ false
-  wide = le-ltb room 255 enough
+  wide = room_enough room enough
 
   sixteen : {xs : List ℕ} → Bytes16 xs → eqb (length xs) 16 ≡ true
   sixteen {xs} h = eq-eqb (length xs) 16 h.long

@@ -16,8 +16,9 @@ use Rattle.histories.specs.Histories.{History, entered, after, goes_on, confirms
 use Rattle.histories.specs.Sessions.{encs, In}
 use Rattle.exchanges.specs.Duos.{End, Duo, called, last_answer, last_written, Meeting, Line, here, there, turned, passed, talked, said_here, said_there}
 use Rattle.exchanges.specs.Exchanges.{opposite, InLink, Matched, Fit, AllFit, HandedOver, RecordsPass, RecordPasses, IsRun}
+use Rattle.suite.proofs.CallLaws.{role_ok}
 use Rattle.suite.proofs.KeyLaws.{value_formed}
-use Rattle.exchanges.proofs.Turns.{stepped, role_ok, send_is, hear_is, data_is}
+use Rattle.exchanges.proofs.Turns.{stepped, send_is, hear_is, data_is}
 use Rattle.exchanges.proofs.Joints.{Among, in_back, among_more, among_both, only_more, Joint, turn_joint}
 
 -- an entity over the same suite that names the same keys

@@ -91,8 +91,7 @@ link_found : (root : List ℕ) (last serial : ℕ) (value link : List ℕ)
     → value_in (linked_suite root last serial value link).live LinkKey (serial + 1) ≡ Some link
 link_found root last serial value link =
     let apart : eqb serial (serial + 1) ≡ false = ne_eqb serial (serial + 1) (λ e. omega arith) in
-    let self : eqb (serial + 1) (serial + 1) ≡ true = eq-eqb _ _ refl in
-    rw (apart, self)
+    value_added (secret_key serial value ∷ []) (link_key (serial + 1) link) (or_from (eqb serial (serial + 1)) false apart refl)
 
 -- without its shared secret nothing is left
 pub one_gone : (root : List ℕ) (last serial : ℕ) (value : List ℕ) → 0 < serial

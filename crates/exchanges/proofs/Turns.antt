@@ -11,7 +11,8 @@ use Rattle.suite.specs.declared.types.Role.TheVariants.{Sender, Recipient}
 use Rattle.suite.specs.declared.types.KeyKind.TheVariants.{LinkKey}
 use Rattle.suite.specs.Numbers.{role_byte}
 use Rattle.suite.specs.Meanings.{Bytes16, keyring_of, value_in}
-use Rattle.suite.specs.Schemes.{Scheme, ok_role}
+use Rattle.suite.specs.Schemes.{Scheme}
+use Rattle.suite.proofs.CallLaws.{room_enough}
 use Rattle.suite.proofs.KeyLaws.{value_is}
 use Rattle.protocol.specs.declared.states.State.{State}
 use Rattle.protocol.specs.declared.states.State.TheVariants.{EstablishedSender, EstablishedRecipient, ConfirmedSse}
@@ -140,15 +141,10 @@ tell_is s root last n role seed value room wide = let self = eq-eqb n n refl in 
 
 -- Records.
 
--- a role's byte is a role
-pub role_ok : (r : Role) → ok_role (role_byte r) ≡ true
-role_ok Sender = refl
-role_ok Recipient = refl
-
 module _ (s : Scheme) (m : Model) (room : ℕ) (enough : 255 ≤ room) (plain : List ℕ) (fit : Fit plain) where
   -- the facts that each call needs
   roomy : ltb room 255 ≡ false
-  roomy = le-ltb room 255 enough
+  roomy = room_enough room enough
 
   filled : eqb (length plain) 0 ≡ false
   filled = let some = fit.some in ne_eqb (length plain) 0 (λ e. omega arith)
@@ -197,7 +193,7 @@ module _ (s : Scheme) (m : Model) (room : ℕ) (enough : 255 ≤ room) (plain : 
 
 module _ (s : Scheme) (m : Model) (room : ℕ) (enough : 255 ≤ room) where
   wide : ltb room 255 ≡ false
-  wide = le-ltb room 255 enough
+  wide = room_enough room enough
 
   -- TERMINATE
   pub part_is : (v : Service) → Confirmed v m → turn s m (terminate room) ≡ ended m conf.Terminated (said_by v (tmn [])) None
