@@ -23,7 +23,7 @@ pub record OfRootAndValue (s : Scheme) : Type 0 where
   pub checks : (root : List ℕ) (k k' : Keyring) (value : List ℕ) (serial serial' role : ℕ) → Under root k → Under root k' → s.check_of k serial value role ≡ s.check_of k' serial' value role
   pub links : (root : List ℕ) (k k' : Keyring) (value : List ℕ) (serial serial' : ℕ) → Under root k → Under root k' → s.link_of k serial value ≡ s.link_of k' serial' value
 
--- so it is with every kind that computes of root and values alone
+-- so it is with every kind of the form that `suite_of` gives
 abbrev pub KindsOfRootAndValue : Type 0
 KindsOfRootAndValue = (k : Functions) → OfRootAndValue (scheme_of k)
 
