@@ -17,7 +17,7 @@ use Rattle.protocol.specs.Steps.{said_by}
 use Rattle.protocol.specs.Calls.{Call, GivenBytes, invoke, frame, Turn, turn}
 use Rattle.histories.specs.Histories.{Entry, History, entered, starts, confirms, answers, sent, handed}
 use Rattle.exchanges.specs.Duos.{End, Duo, begun, last_answer, last_written, Meeting, asks, replies, checks, verifies, completes, activated}
-use Rattle.exchanges.specs.Exchanges.{OfRootAndValue, KindsOfRootAndValue, NewIsFresh, Ready, opposite, InLink, Matched, LinkSucceeds, Shared, SecretSucceeds, IsRun, SomeReady}
+use Rattle.exchanges.specs.Exchanges.{OfRootAndValue, KindsOfRootAndValue, NewIsFresh, Ready, opposite, InLink, Matched, LinkSucceeds, Shared, SecretSucceeds, calls_in, IsRun, SomeReady}
 use Rattle.exchanges.proofs.Shapes.{bare, agreed_suite, Base, base_of, bare_under, agreed_under, linked_in, one_gone, both_gone, selecting, sharing, linking, Clears}
 use Rattle.exchanges.proofs.Turns.{stepped, ask_is, reply_is, check_is, confirm_sse, confirm_sch, complete_sse, complete_sch, tell_is}
 use Rattle.exchanges.proofs.Joints.{Joint, new_joint, joined}
@@ -55,7 +55,7 @@ module _ (s : Scheme) (v : Service) (x : Meeting) where
 
 -- the calls of a history were given bytes
 abbrev Given : History → Type 0
-Given h = AllByRecursion (λ e. GivenBytes e.call) h
+Given h = AllByRecursion GivenBytes (calls_in h)
 
 -- two entities at the start of a link
 pub record Started (s : Scheme) (d : Duo) : Type 0 where
@@ -359,7 +359,7 @@ secret_succeeds s law free x r more big = (secret_told s law free x r more big).
 -- an activation is a run of each of the two
 
 new_run : (s : Scheme) (means : Meaning) → IsRun s means (begun means)
-new_run s means = record { calls = []; bytes = tt; model = refl; past = refl }
+new_run s means = record { bytes = tt; model = refl; past = refl }
 
 pub mine_activated : (s : Scheme) (x : Meeting) → Started s (activated s Sch x) → IsRun s x.mine (completes s Sch x)
 mine_activated s x start =

@@ -15,7 +15,7 @@ use Rattle.protocol.specs.Calls.{Call, GivenBytes, send, retrieve_data, frame, T
 use Rattle.histories.specs.Histories.{History, entered, after, goes_on, confirms, answers, sent, handed}
 use Rattle.histories.specs.Sessions.{encs, In}
 use Rattle.exchanges.specs.Duos.{End, Duo, called, last_answer, last_written, Meeting, Line, here, there, turned, passed, talked, said_here, said_there}
-use Rattle.exchanges.specs.Exchanges.{opposite, InLink, Matched, Fit, AllFit, HandedOver, RecordsPass, RecordPasses, IsRun}
+use Rattle.exchanges.specs.Exchanges.{opposite, InLink, Matched, Fit, AllFit, HandedOver, RecordsPass, RecordPasses, calls_in, IsRun}
 use Rattle.suite.proofs.CallLaws.{role_ok}
 use Rattle.suite.proofs.KeyLaws.{value_formed}
 use Rattle.exchanges.proofs.Turns.{stepped, send_is, hear_is, data_is}
@@ -34,12 +34,11 @@ same_after a b = record { means = b.means ∙ a.means; secret = b.secret ∙ a.s
 -- one more call of a run
 pub run_called : (s : Scheme) (means : Meaning) {e : End} (c : Call) → GivenBytes c → IsRun s means e → IsRun s means (called s e c)
 run_called s means {e} c given r = record {
-  calls = c ∷ r.calls;
   bytes = (given, r.bytes);
   model = ap (λ z. (turn s z c).model) r.model;
   past =
       ap (λ z. entered c (turn s z c) ∷ e.past) r.model
-      ∙ ap (λ z. entered c (turn s (after s (fresh means) r.calls) c) ∷ z) r.past;
+      ∙ ap (λ z. entered c (turn s (after s (fresh means) (calls_in e.past)) c) ∷ z) r.past;
 }
 
 -- One record.

@@ -83,19 +83,23 @@ pub record Matched (number : ℕ) (d : Duo) : Type 0 where
   pub mine_at : d.one.model.number ≡ number
   pub theirs_at : d.other.model.number ≡ number
 
--- the end is that of a new entity over the suite after some calls given bytes, with their history
+-- the calls of a history, the newest first
+abbrev pub calls_in : History → List Call
+calls_in [] = []
+calls_in (e ∷ h) = e.call ∷ calls_in h
+
+-- The calls of the end's past were given bytes. The end is what they leave of a new entity over the suite, with their history.
 pub record IsRun (s : Scheme) (means : Meaning) (e : End) : Type 0 where
-  pub calls : List Call
-  pub bytes : AllByRecursion GivenBytes calls
-  pub model : e.model ≡ after s (fresh means) calls
-  pub past : e.past ≡ history s (fresh means) calls
+  pub bytes : AllByRecursion GivenBytes (calls_in e.past)
+  pub model : e.model ≡ after s (fresh means) (calls_in e.past)
+  pub past : e.past ≡ history s (fresh means) (calls_in e.past)
 
 -- and in this run a link session runs, whose link key has this value
 pub record LinkRun (s : Scheme) (means : Meaning) (value : List ℕ) (e : End) : Type 0 where
   pub run : IsRun s means e
   pub serial : ℕ
   pub since : History
-  pub session : InSession s (fresh means) run.calls serial value since
+  pub session : InSession s (fresh means) (calls_in e.past) serial value since
 
 -- The two ends are in link sessions with one value of the two link keys, and neither got an ENC but copies of those sent in the two: what is
 -- promised of such sessions holds of these, both ways.
