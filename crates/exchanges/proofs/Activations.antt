@@ -59,9 +59,10 @@ Given h = AllByRecursion GivenBytes (calls_in h)
 
 -- two entities at the start of a link
 pub record Started (s : Scheme) (d : Duo) : Type 0 where
+  pub value : List ℕ
   pub mine : confirms 1 (last_answer d.one.past) ≡ true
   pub theirs : confirms 1 (last_answer d.other.past) ≡ true
-  pub matched : Matched s.first d
+  pub matched : Matched value s.first d
   pub joint : Joint d
   pub none_sent : (sent d.one.past ≡ []) × (sent d.other.past ≡ [])
   pub none_handed : (handed d.one.past ≡ []) × (handed d.other.past ≡ [])
@@ -233,7 +234,7 @@ module _ (s : Scheme) (law : Lawful s) (free : OfRootAndValue s) (root : List �
   -- the last two for SCH
 
   -- the two are matched
-  linked : n + 2 ≤ last → n' + 2 ≤ last' → (d : Duo) → d.one.model ≡ mine_linked → d.other.model ≡ their_linked → Matched s.first d
+  linked : n + 2 ≤ last → n' + 2 ≤ last' → (d : Duo) → d.one.model ≡ mine_linked → d.other.model ≡ their_linked → Matched mine_link s.first d
   linked h h' d e e' =
       let some : 0 < n + 1 = omega arith in
       let some' : 0 < n' + 1 = omega arith in
@@ -244,7 +245,6 @@ module _ (s : Scheme) (law : Lawful s) (free : OfRootAndValue s) (root : List �
       let alike : their_link ≡ mine_link = free.links root their_ring mine_ring value (n' + 1) (n + 1) their_under mine_under in
       let theirs = linked_in root last' (n' + 1) value their_link Recipient no_seed s.first full' some' value16 their16 in
       record {
-        value = mine_link;
         mine = subst (InLink mine_link) (sym e) (linked_in root last (n + 1) value mine_link Sender seed s.first full some value16 mine16);
         theirs = subst (InLink mine_link) (sym e') (subst (λ z. InLink z their_linked) alike theirs);
         roles = ap (λ z. z.role) e' ∙ sym (ap (λ z. opposite z.role) e);
@@ -277,10 +277,11 @@ module _ (s : Scheme) (law : Lawful s) (free : OfRootAndValue s) (root : List �
       five s Sch meeting (Started s) (turn1 Sch) (turn2 Sch) (turn3 Sch) turn4_sch turn5_sch
       (first Sch) (second Sch (omega arith)) (third Sch (omega arith)) (fourth_sch h') (fifth_sch h)
       (record {
+        value = mine_link;
         mine = refl;
         theirs = refl;
         matched = linked h h' _ refl refl;
-        joint = new_joint (linked h h' _ refl refl) (starts (omega arith) refl) (starts (omega arith) refl);
+        joint = new_joint (starts (omega arith) refl) (starts (omega arith) refl);
         none_sent = (refl, refl);
         none_handed = (refl, refl);
         mine_given = (((lit< tt, replied_bytes), spare_is.bytes), (((lit< tt, reply_bytes), spare_is.bytes), (seed_is.bytes, tt)));
@@ -379,10 +380,11 @@ pub link_succeeds : LinkSucceeds
 link_succeeds s law free x r =
     let start = link_starts s law free x r in
     record {
+      value = start.value;
       mine = start.mine;
       theirs = start.theirs;
       matched = start.matched;
-      joined = joined (mine_activated s x start) (theirs_activated s x start) start.joint;
+      joined = joined (mine_activated s x start) (theirs_activated s x start) start.matched start.joint;
       none_sent = start.none_sent;
       none_handed = start.none_handed;
     }

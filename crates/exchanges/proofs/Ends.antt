@@ -21,11 +21,11 @@ use Rattle.exchanges.proofs.Activations.{Started, link_starts, secret_told, mine
 -- A talk after an activation.
 
 -- what it does
-talk_of_new : (s : Scheme) → Lawful s → (x : Meeting) → Ready Sch x → Started s (activated s Sch x) → (talk : List Line) → AllFit talk
-    → s.first + length talk ≤ s.final → Goes s (s.first + length talk) (activated s Sch x) talk (talked s x (activated s Sch x) talk)
+talk_of_new : (s : Scheme) → Lawful s → (x : Meeting) → Ready Sch x → (start : Started s (activated s Sch x)) → (talk : List Line) → AllFit talk
+    → s.first + length talk ≤ s.final → Goes s start.value (s.first + length talk) (activated s Sch x) talk (talked s x (activated s Sch x) talk)
 talk_of_new s law x r start talk fit most =
     let low : s.first ≤ s.first = omega arith in
-    talk_goes s law x r.spare_is r.enough s.first (activated s Sch x) low start.matched talk fit most
+    talk_goes s law x r.spare_is r.enough start.value s.first (activated s Sch x) low start.matched talk fit most
 
 pub talk_succeeds : TalkSucceeds
 talk_succeeds s law free x r talk fit most =
@@ -36,7 +36,9 @@ talk_succeeds s law free x r talk fit most =
       handed_there = g.over.handed_there ∙ ap (λ z. z ++ said_here talk) start.none_handed.1;
       sent_there = g.over.sent_there ∙ ap (λ z. z ++ said_there talk) start.none_sent.1;
       handed_here = g.over.handed_here ∙ ap (λ z. z ++ said_there talk) start.none_handed.0;
-      joined = joined (g.mine_run x.mine (mine_activated s x start)) (g.their_run x.theirs (theirs_activated s x start)) (g.joint start.joint);
+      value = start.value;
+      matched = g.matched;
+      joined = joined (g.mine_run x.mine (mine_activated s x start)) (g.their_run x.theirs (theirs_activated s x start)) g.matched (g.joint start.joint);
     }
 
 -- The end.

@@ -1,5 +1,5 @@
 -- Two link sessions with equal link keys, to which no ENC came but copies.
-use Rattle.std.proofs.Common.{◌≡◌, ℕ, ◌⊎◌, List, [], ◌∷◌, ◌++◌, Some, sym, ap, ◌∙◌, subst, inl, inr}
+use Rattle.std.proofs.Common.{ℕ, ◌⊎◌, List, [], ◌∷◌, ◌++◌, sym, ap, ◌∙◌, subst, inl, inr}
 use Rattle.suite.specs.declared.types.KeyKind.TheVariants.{LinkKey}
 use Rattle.suite.specs.Meanings.{Meaning, value_in}
 use Rattle.suite.specs.Schemes.{Scheme}
@@ -7,7 +7,7 @@ use Rattle.protocol.specs.Calls.{Call, invoke, send, retrieve_data, retrieve_sec
 use Rattle.histories.specs.Histories.{History, Runs}
 use Rattle.histories.specs.Sessions.{encs, In, CopyOf, CopyIn, OnlyCopies}
 use Rattle.exchanges.specs.Duos.{End, Duo, Meeting, turned}
-use Rattle.exchanges.specs.Exchanges.{Matched, IsRun, LinkRun, Joined}
+use Rattle.exchanges.specs.Exchanges.{InLink, Matched, IsRun, LinkRun, Joined}
 
 -- Copies.
 
@@ -56,53 +56,48 @@ module _ (a b : List (List ℕ)) (more : Among a b) where
 
 -- The two sessions.
 
--- at an end a link session runs, whose link key has this value
-pub record Running (value : List ℕ) (e : End) : Type 0 where
-  pub serial : ℕ
-  pub since : History
-  pub runs : Runs serial e.past since
-  pub key : value_in e.model.means.live LinkKey serial ≡ Some value
-
--- so at both ends, and no ENC came but copies
+-- at both ends the link session of the end's link key runs, and no ENC came but copies
 pub record Joint (d : Duo) : Type 0 where
-  pub value : List ℕ
-  pub mine : Running value d.one
-  pub theirs : Running value d.other
-  pub mine_copies : OnlyCopies (encs mine.since ++ encs theirs.since) mine.since
-  pub their_copies : OnlyCopies (encs theirs.since ++ encs mine.since) theirs.since
+  pub mine_since : History
+  pub their_since : History
+  pub mine : Runs d.one.model.link d.one.past mine_since
+  pub theirs : Runs d.other.model.link d.other.past their_since
+  pub mine_copies : OnlyCopies (encs mine_since ++ encs their_since) mine_since
+  pub their_copies : OnlyCopies (encs their_since ++ encs mine_since) their_since
 
--- two matched sessions that have just started
-pub new_joint : {number : ℕ} {d : Duo} → Matched number d → Runs d.one.model.link d.one.past [] → Runs d.other.model.link d.other.past [] → Joint d
-new_joint {d} M r r' = record {
-  value = M.value;
-  mine = record { serial = d.one.model.link; since = []; runs = r; key = M.mine.key };
-  theirs = record { serial = d.other.model.link; since = []; runs = r'; key = M.theirs.key };
-  mine_copies = tt;
-  their_copies = tt;
-}
+-- two sessions that have just started
+pub new_joint : {d : Duo} → Runs d.one.model.link d.one.past [] → Runs d.other.model.link d.other.past [] → Joint d
+new_joint r r' = record { mine_since = []; their_since = []; mine = r; theirs = r'; mine_copies = tt; their_copies = tt }
 
 -- with the two exchanged
 pub turn_joint : {d : Duo} → Joint d → Joint (turned d)
-turn_joint j = record { value = j.value; mine = j.theirs; theirs = j.mine; mine_copies = j.their_copies; their_copies = j.mine_copies }
+turn_joint j = record {
+  mine_since = j.their_since;
+  their_since = j.mine_since;
+  mine = j.theirs;
+  theirs = j.mine;
+  mine_copies = j.their_copies;
+  their_copies = j.mine_copies;
+}
 
 -- of an end that comes of a run, the session is one of that run
-link_run : {s : Scheme} {means : Meaning} {value : List ℕ} {e : End} → IsRun s means e → Running value e → LinkRun s means value e
-link_run r x = record {
+link_run : {s : Scheme} {means : Meaning} {value : List ℕ} {e : End} → IsRun s means e → InLink value e.model → (since : History)
+    → Runs e.model.link e.past since → LinkRun s means value e
+link_run {e} r i since x = record {
   run = r;
-  serial = x.serial;
-  since = x.since;
+  since = since;
   session = record {
-    runs = subst (λ h. Runs x.serial h x.since) r.past x.runs;
-    key = sym (ap (λ m. value_in m.means.live LinkKey x.serial) r.model) ∙ x.key;
+    runs = subst (λ h. Runs e.model.link h since) r.past x;
+    key = sym (ap (λ m. value_in m.means.live LinkKey e.model.link) r.model) ∙ i.key;
   };
 }
 
-pub joined : {s : Scheme} {x : Meeting} {d : Duo} → IsRun s x.mine d.one → IsRun s x.theirs d.other → Joint d → Joined s x d
+pub joined : {s : Scheme} {x : Meeting} {value : List ℕ} {number : ℕ} {d : Duo} → IsRun s x.mine d.one → IsRun s x.theirs d.other
+    → Matched value number d → Joint d → Joined s x value d
 unfolding link_run
-joined r r' j = record {
-  value = j.value;
-  mine = link_run r j.mine;
-  theirs = link_run r' j.theirs;
+joined r r' M j = record {
+  mine = link_run r M.mine j.mine_since j.mine;
+  theirs = link_run r' M.theirs j.their_since j.theirs;
   mine_copies = j.mine_copies;
   their_copies = j.their_copies;
 }

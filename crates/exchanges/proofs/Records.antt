@@ -49,8 +49,8 @@ earlier [] = []
 earlier (e ∷ h) = h
 
 -- between d and e this was sent and handed over
-record Passed (number : ℕ) (d : Duo) (plain : List ℕ) (e : Duo) : Type 0 where
-  matched : Matched (number + 1) e
+record Passed (value : List ℕ) (number : ℕ) (d : Duo) (plain : List ℕ) (e : Duo) : Type 0 where
+  matched : Matched value (number + 1) e
   over : HandedOver d e (here plain ∷ [])
   confirmed : confirms 2 (last_answer e.one.past) ≡ true
   available : confirms 3 (last_answer (earlier e.other.past)) ≡ true
@@ -76,8 +76,8 @@ opposite_differs : (r : Role) → eqb (role_byte r) (role_byte (opposite r)) ≡
 opposite_differs Sender = refl
 opposite_differs Recipient = refl
 
-module _ (s : Scheme) (law : Lawful s) (x : Meeting) (spare : Bytes16 x.spare.seed) (enough : 255 ≤ x.room) (number : ℕ) (d : Duo)
-    (M : Matched number d) (plain : List ℕ) (fit : Fit plain) (low : s.first ≤ number) (below : number < s.final) where
+module _ (s : Scheme) (law : Lawful s) (x : Meeting) (spare : Bytes16 x.spare.seed) (enough : 255 ≤ x.room) (value : List ℕ) (number : ℕ) (d : Duo)
+    (M : Matched value number d) (plain : List ℕ) (fit : Fit plain) (low : s.first ≤ number) (below : number < s.final) where
   -- the two, and what the one seals
 
   abbrev sender : Model
@@ -93,29 +93,29 @@ module _ (s : Scheme) (law : Lawful s) (x : Meeting) (spare : Bytes16 x.spare.se
   role = role_byte sender.role
 
   abbrev payload : List ℕ
-  payload = s.seal_of mine_ring sender.link M.value role (sender.number + 1) plain
+  payload = s.seal_of mine_ring sender.link value role (sender.number + 1) plain
 
   -- the link key has sixteen bytes
-  value16 : Bytes16 M.value
-  value16 = value_formed mine_ring LinkKey sender.link M.value M.mine.formed.keyring M.mine.key
+  value16 : Bytes16 value
+  value16 = value_formed mine_ring LinkKey sender.link value M.mine.formed.keyring M.mine.key
 
   -- the record can be sealed; its payload is short, made of bytes, and opens to it
   can : Sealable s (sender.number + 1) plain
   can = let at = M.mine_at in record { some = fit.some; most = fit.most; bytes = fit.bytes; low = omega arith; high = omega arith }
 
   size : length payload ≡ length plain + s.overhead
-  size = law.seal_long mine_ring M.value plain sender.link role (sender.number + 1) M.mine.formed.keyring value16 (role_ok sender.role)
+  size = law.seal_long mine_ring value plain sender.link role (sender.number + 1) M.mine.formed.keyring value16 (role_ok sender.role)
 
   short : length payload ≤ 254
   short = let most = fit.most in let over = law.overhead_bound in omega (arith, size)
 
   sealed_bytes : Bytes payload
   sealed_bytes =
-      law.seal_bytes mine_ring M.value plain sender.link role (sender.number + 1) M.mine.formed.keyring value16 (role_ok sender.role) can
+      law.seal_bytes mine_ring value plain sender.link role (sender.number + 1) M.mine.formed.keyring value16 (role_ok sender.role) can
 
-  opened : s.open_of (keyring_of receiver.means) receiver.link M.value payload ≡ Some (role, receiver.number + 1, plain)
+  opened : s.open_of (keyring_of receiver.means) receiver.link value payload ≡ Some (role, receiver.number + 1, plain)
   opened =
-      law.opens mine_ring (keyring_of receiver.means) M.value plain sender.link receiver.link role (sender.number + 1)
+      law.opens mine_ring (keyring_of receiver.means) value plain sender.link receiver.link role (sender.number + 1)
       M.mine.formed.keyring M.theirs.formed.keyring value16 (role_ok sender.role) can
       ∙ ap (λ z. Some (role, z + 1, plain)) (M.mine_at ∙ sym M.theirs_at)
 
@@ -135,12 +135,12 @@ module _ (s : Scheme) (law : Lawful s) (x : Meeting) (spare : Bytes16 x.spare.se
   first : turn s sender (send plain x.room) ≡ sends
   first =
       let at = M.mine_at in
-      send_is s sender x.room enough plain fit M.value M.mine.confirmed M.mine.key (omega arith)
+      send_is s sender x.room enough plain fit value M.mine.confirmed M.mine.key (omega arith)
 
   second : turn s receiver (frame sends.reply x.spare x.room) ≡ takes
   second =
       let at = M.theirs_at in
-      hear_is s receiver x.room enough plain fit M.value payload x.spare role M.theirs (omega arith) short spare differs opened
+      hear_is s receiver x.room enough plain fit value payload x.spare role M.theirs (omega arith) short spare differs opened
 
   third : turn s takes.model (retrieve_data x.room) ≡ gives
   third =
@@ -157,35 +157,28 @@ module _ (s : Scheme) (law : Lawful s) (x : Meeting) (spare : Bytes16 x.spare.se
   -- two joint sessions stay so: the frame that came is the one that was sent
   joint_by : Joint d → Joint (after_calls sends takes gives)
   joint_by j =
-      let mine = j.mine in
-      let theirs = j.theirs in
-      let said = encs mine.since in
-      let heard = encs theirs.since in
+      let said = encs j.mine_since in
+      let heard = encs j.their_since in
       let said' = said ++ (sends.reply ∷ []) in
       let heard' = heard ++ [] ++ [] in
       let more : Among said said' = among_more said (sends.reply ∷ []) in
       let same : Among heard heard' = λ z h. among_more (heard ++ []) [] z (among_more heard [] z h) in
       let copy : In sends.reply (heard' ++ said') = in_back sends.reply heard' said' (in_back sends.reply said (sends.reply ∷ []) (inl refl)) in
       record {
-        value = j.value;
-        mine = record { serial = mine.serial; since = entered (send plain x.room) sends ∷ mine.since; runs = goes_on mine.runs refl; key = mine.key };
-        theirs = record {
-          serial = theirs.serial;
-          since = entered (retrieve_data x.room) gives ∷ entered (frame sends.reply x.spare x.room) takes ∷ theirs.since;
-          runs = goes_on (goes_on theirs.runs refl) refl;
-          key = theirs.key;
-        };
-        mine_copies = (tt, only_more (said ++ heard) (said' ++ heard') (among_both said heard said' heard' more same) mine.since j.mine_copies);
+        mine_since = entered (send plain x.room) sends ∷ j.mine_since;
+        their_since = entered (retrieve_data x.room) gives ∷ entered (frame sends.reply x.spare x.room) takes ∷ j.their_since;
+        mine = goes_on j.mine refl;
+        theirs = goes_on (goes_on j.theirs refl) refl;
+        mine_copies = (tt, only_more (said ++ heard) (said' ++ heard') (among_both said heard said' heard' more same) j.mine_since j.mine_copies);
         their_copies = (
           tt,
-          ((λ _. copy), only_more (heard ++ said) (heard' ++ said') (among_both heard said heard' said' same more) theirs.since j.their_copies),
+          ((λ _. copy), only_more (heard ++ said) (heard' ++ said') (among_both heard said heard' said' same more) j.their_since j.their_copies),
         );
       }
 
-  passed_by : Passed number d plain (after_calls sends takes gives)
+  passed_by : Passed value number d plain (after_calls sends takes gives)
   passed_by = record {
     matched = record {
-      value = M.value;
       mine = moved (sender.number + 1) M.mine.none_held M.mine;
       theirs = moved (receiver.number + 1) refl M.theirs;
       roles = M.roles;
@@ -209,11 +202,11 @@ module _ (s : Scheme) (law : Lawful s) (x : Meeting) (spare : Bytes16 x.spare.se
   }
 
   -- so it is with the calls themselves
-  pass : Passed number d plain (passed s x d plain)
+  pass : Passed value number d plain (passed s x d plain)
   pass =
       let hear : Turn → Turn = λ z. turn s receiver (frame z.reply x.spare x.room) in
       let retrieve : Turn → Turn = λ z. turn s z.model (retrieve_data x.room) in
-      let P : Turn → Turn → Turn → Type 0 = λ a b c. Passed number d plain (after_calls a b c) in
+      let P : Turn → Turn → Turn → Type 0 = λ a b c. Passed value number d plain (after_calls a b c) in
       subst (λ z. P z (hear z) (retrieve (hear z))) (sym first)
       (subst (λ z. P sends z (retrieve z)) (sym second)
       (subst (λ z. P sends takes z) (sym third) passed_by))
@@ -221,8 +214,8 @@ module _ (s : Scheme) (law : Lawful s) (x : Meeting) (spare : Bytes16 x.spare.se
 -- Many records.
 
 -- what a talk does, which leads two matched sessions to the number k
-pub record Goes (s : Scheme) (k : ℕ) (d : Duo) (talk : List Line) (e : Duo) : Type 0 where
-  pub matched : Matched k e
+pub record Goes (s : Scheme) (value : List ℕ) (k : ℕ) (d : Duo) (talk : List Line) (e : Duo) : Type 0 where
+  pub matched : Matched value k e
   pub over : HandedOver d e talk
   pub mine_keys : SameKeys d.one.model e.one.model
   pub their_keys : SameKeys d.other.model e.other.model
@@ -236,9 +229,8 @@ twice : (r : Role) → opposite (opposite r) ≡ r
 twice Sender = refl
 twice Recipient = refl
 
-turn_matched : (number : ℕ) (d : Duo) → Matched number d → Matched number (turned d)
-turn_matched number d M = record {
-  value = M.value;
+turn_matched : (value : List ℕ) (number : ℕ) (d : Duo) → Matched value number d → Matched value number (turned d)
+turn_matched value number d M = record {
   mine = M.theirs;
   theirs = M.mine;
   roles = sym (ap opposite M.roles ∙ twice d.one.model.role);
@@ -246,10 +238,10 @@ turn_matched number d M = record {
   theirs_at = M.mine_at;
 }
 
-turn_goes : {s : Scheme} {k : ℕ} (plain : List ℕ) {d e : Duo} → Goes s k (turned d) (here plain ∷ []) e
-    → Goes s k d (there plain ∷ []) (turned e)
-turn_goes {k} plain {e} g = record {
-  matched = turn_matched k e g.matched;
+turn_goes : {s : Scheme} {value : List ℕ} {k : ℕ} (plain : List ℕ) {d e : Duo} → Goes s value k (turned d) (here plain ∷ []) e
+    → Goes s value k d (there plain ∷ []) (turned e)
+turn_goes {value} {k} plain {e} g = record {
+  matched = turn_matched value k e g.matched;
   over = record {
     sent_here = g.over.sent_there;
     handed_there = g.over.handed_here;
@@ -287,8 +279,8 @@ joined_there : (r : Line) (later : List Line) (a : List (List ℕ)) {b c : List 
 joined_there r later a p q =
     after_both a (said_there (r ∷ [])) (said_there later) p q ∙ ap (λ z. a ++ z) (there_first r later)
 
-joined : (r : Line) (later : List Line) {s : Scheme} {k l : ℕ} {d e f : Duo} → Goes s k d (r ∷ []) e → Goes s l e later f
-    → Goes s l d (r ∷ later) f
+joined : (r : Line) (later : List Line) {s : Scheme} {value : List ℕ} {k l : ℕ} {d e f : Duo} → Goes s value k d (r ∷ []) e
+    → Goes s value l e later f → Goes s value l d (r ∷ later) f
 joined r later {d} g h = record {
   matched = h.matched;
   over = record {
@@ -305,8 +297,8 @@ joined r later {d} g h = record {
 }
 
 -- no record
-none_said : (s : Scheme) (number : ℕ) (d : Duo) → Matched number d → Goes s number d [] d
-none_said s number d M = record {
+none_said : (s : Scheme) (value : List ℕ) (number : ℕ) (d : Duo) → Matched value number d → Goes s value number d [] d
+none_said s value number d M = record {
   matched = M;
   over = record {
     sent_here = sym (append-nil _);
@@ -322,15 +314,15 @@ none_said s number d M = record {
 }
 
 -- the same number in other words
-at_number : {s : Scheme} {n k : ℕ} {d e : Duo} {talk : List Line} → n ≡ k → Goes s n d talk e → Goes s k d talk e
-at_number {s} {d} {e} {talk} same g = subst (λ z. Goes s z d talk e) same g
+at_number : {s : Scheme} {value : List ℕ} {n k : ℕ} {d e : Duo} {talk : List Line} → n ≡ k → Goes s value n d talk e → Goes s value k d talk e
+at_number {s} {value} {d} {e} {talk} same g = subst (λ z. Goes s value z d talk e) same g
 
-module _ (s : Scheme) (law : Lawful s) (x : Meeting) (spare : Bytes16 x.spare.seed) (enough : 255 ≤ x.room) where
+module _ (s : Scheme) (law : Lawful s) (x : Meeting) (spare : Bytes16 x.spare.seed) (enough : 255 ≤ x.room) (value : List ℕ) where
   -- one record of the one
-  line_goes : (number : ℕ) (d : Duo) (plain : List ℕ) → Matched number d → Fit plain → s.first ≤ number → number < s.final
-      → Goes s (number + 1) d (here plain ∷ []) (passed s x d plain)
+  line_goes : (number : ℕ) (d : Duo) (plain : List ℕ) → Matched value number d → Fit plain → s.first ≤ number → number < s.final
+      → Goes s value (number + 1) d (here plain ∷ []) (passed s x d plain)
   line_goes number d plain M fit low below =
-      let p = pass s law x spare enough number d M plain fit low below in
+      let p = pass s law x spare enough value number d M plain fit low below in
       let heard : Call = frame (last_written (called s d.one (send plain x.room)).past) x.spare x.room in
       record {
         matched = p.matched;
@@ -343,24 +335,24 @@ module _ (s : Scheme) (law : Lawful s) (x : Meeting) (spare : Bytes16 x.spare.se
       }
 
   -- any records, as far as the numbers reach
-  pub talk_goes : (number : ℕ) (d : Duo) → s.first ≤ number → Matched number d → (talk : List Line) → AllFit talk
-      → number + length talk ≤ s.final → Goes s (number + length talk) d talk (talked s x d talk)
-  talk_goes number d low M [] fit most = at_number (omega arith) (none_said s number d M)
+  pub talk_goes : (number : ℕ) (d : Duo) → s.first ≤ number → Matched value number d → (talk : List Line) → AllFit talk
+      → number + length talk ≤ s.final → Goes s value (number + length talk) d talk (talked s x d talk)
+  talk_goes number d low M [] fit most = at_number (omega arith) (none_said s value number d M)
   talk_goes number d low M (here plain ∷ later) fit most =
       let g = line_goes number d plain M fit.0 (omega arith) (omega arith) in
       let h = talk_goes (number + 1) (passed s x d plain) (omega arith) g.matched later fit.1 (omega arith) in
       at_number (omega arith) (joined (here plain) later g h)
   talk_goes number d low M (there plain ∷ later) fit most =
-      let g = turn_goes plain (line_goes number (turned d) plain (turn_matched number d M) fit.0 (omega arith) (omega arith)) in
+      let g = turn_goes plain (line_goes number (turned d) plain (turn_matched value number d M) fit.0 (omega arith) (omega arith)) in
       let h = talk_goes (number + 1) (turned (passed s x (turned d) plain)) (omega arith) g.matched later fit.1 (omega arith) in
       at_number (omega arith) (joined (there plain) later g h)
 
 pub records_pass : RecordsPass
-records_pass s law x spare enough number d low M talk fit most =
-    let g = talk_goes s law x spare enough number d low M talk fit most in
+records_pass s law x spare enough value number d low M talk fit most =
+    let g = talk_goes s law x spare enough value number d low M talk fit most in
     (g.matched, g.over)
 
 pub record_passes : RecordPasses
-record_passes s law x spare enough number d low below M plain fit =
-    let p = pass s law x spare enough number d M plain fit low below in
+record_passes s law x spare enough value number d low below M plain fit =
+    let p = pass s law x spare enough value number d M plain fit low below in
     record { confirmed = p.confirmed; available = p.available; retrieved = p.retrieved; exactly = p.exactly; matched = p.matched }

@@ -74,9 +74,8 @@ pub record InLink (value : List ℕ) (m : Model) : Type 0 where
   pub none_held : m.held ≡ []
   pub key : value_in m.means.live LinkKey m.link ≡ Some value
 
--- two link sessions under equal link keys, at one number, in opposite roles
-pub record Matched (number : ℕ) (d : Duo) : Type 0 where
-  pub value : List ℕ
+-- two link sessions whose link keys have this value, at one number, in opposite roles
+pub record Matched (value : List ℕ) (number : ℕ) (d : Duo) : Type 0 where
   pub mine : InLink value d.one.model
   pub theirs : InLink value d.other.model
   pub roles : d.other.model.role ≡ opposite d.one.model.role
@@ -94,17 +93,15 @@ pub record IsRun (s : Scheme) (means : Meaning) (e : End) : Type 0 where
   pub model : e.model ≡ after s (fresh means) (calls_in e.past)
   pub past : e.past ≡ history s (fresh means) (calls_in e.past)
 
--- and in this run a link session runs, whose link key has this value
+-- and in this run the link session of the end's link key runs, which has this value
 pub record LinkRun (s : Scheme) (means : Meaning) (value : List ℕ) (e : End) : Type 0 where
   pub run : IsRun s means e
-  pub serial : ℕ
   pub since : History
-  pub session : InSession s (fresh means) (calls_in e.past) serial value since
+  pub session : InSession s (fresh means) (calls_in e.past) e.model.link value since
 
--- The two ends are in link sessions with one value of the two link keys, and neither got an ENC but copies of those sent in the two: what is
+-- The two ends are in link sessions whose link keys have this value, and neither got an ENC but copies of those sent in the two: what is
 -- promised of such sessions holds of these, both ways.
-pub record Joined (s : Scheme) (x : Meeting) (d : Duo) : Type 0 where
-  pub value : List ℕ
+pub record Joined (s : Scheme) (x : Meeting) (value : List ℕ) (d : Duo) : Type 0 where
   pub mine : LinkRun s x.mine value d.one
   pub theirs : LinkRun s x.theirs value d.other
   pub mine_copies : OnlyCopies (encs mine.since ++ encs theirs.since) mine.since
@@ -112,10 +109,11 @@ pub record Joined (s : Scheme) (x : Meeting) (d : Duo) : Type 0 where
 
 -- both in Confirmed_SCH with confirmation 1, matched at the first number and joined, and no record was sent or handed out yet
 pub record Linked (s : Scheme) (x : Meeting) (d : Duo) : Type 0 where
+  pub value : List ℕ
   pub mine : confirms 1 (last_answer d.one.past) ≡ true
   pub theirs : confirms 1 (last_answer d.other.past) ≡ true
-  pub matched : Matched s.first d
-  pub joined : Joined s x d
+  pub matched : Matched value s.first d
+  pub joined : Joined s x value d
   pub none_sent : (sent d.one.past ≡ []) × (sent d.other.past ≡ [])
   pub none_handed : (handed d.one.past ≡ []) × (handed d.other.past ≡ [])
 
@@ -154,17 +152,18 @@ AllFit (here plain ∷ later) = Fit plain × AllFit later
 AllFit (there plain ∷ later) = Fit plain × AllFit later
 
 -- the record is confirmed sent and available, and exactly its bytes are retrieved; the sessions stay matched
-pub record Arrives (s : Scheme) (x : Meeting) (number : ℕ) (d : Duo) (plain : List ℕ) : Type 0 where
+pub record Arrives (s : Scheme) (x : Meeting) (value : List ℕ) (number : ℕ) (d : Duo) (plain : List ℕ) : Type 0 where
   pub confirmed : confirms 2 (last_answer (called s d.one (send plain x.room)).past) ≡ true
   pub available : confirms 3 (last_answer (hears s x d.other (called s d.one (send plain x.room))).past) ≡ true
   pub retrieved : answers (last_answer (passed s x d plain).other.past) ≡ true
   pub exactly : last_written (passed s x d plain).other.past ≡ plain
-  pub matched : Matched (number + 1) (passed s x d plain)
+  pub matched : Matched value (number + 1) (passed s x d plain)
 
 -- two matched sessions hand over one record
 abbrev pub RecordPasses : Type 0
 RecordPasses = (s : Scheme) → Lawful s → (x : Meeting) → Bytes16 x.spare.seed → 255 ≤ x.room →
-    (number : ℕ) (d : Duo) → s.first ≤ number → number < s.final → Matched number d → (plain : List ℕ) → Fit plain → Arrives s x number d plain
+    (value : List ℕ) (number : ℕ) (d : Duo) → s.first ≤ number → number < s.final → Matched value number d →
+    (plain : List ℕ) → Fit plain → Arrives s x value number d plain
 
 -- between d and e these were sent and handed over, each to the other's user, all of them and in their order
 pub record HandedOver (d e : Duo) (talk : List Line) : Type 0 where
@@ -176,16 +175,19 @@ pub record HandedOver (d e : Duo) (talk : List Line) : Type 0 where
 -- two matched sessions hand over any records, as far as the numbers reach, and stay matched
 abbrev pub RecordsPass : Type 0
 RecordsPass = (s : Scheme) → Lawful s → (x : Meeting) → Bytes16 x.spare.seed → 255 ≤ x.room →
-    (number : ℕ) (d : Duo) → s.first ≤ number → Matched number d → (talk : List Line) → AllFit talk → number + length talk ≤ s.final →
-    Matched (number + length talk) (talked s x d talk) × HandedOver d (talked s x d talk) talk
+    (value : List ℕ) (number : ℕ) (d : Duo) → s.first ≤ number → Matched value number d →
+    (talk : List Line) → AllFit talk → number + length talk ≤ s.final →
+    Matched value (number + length talk) (talked s x d talk) × HandedOver d (talked s x d talk) talk
 
--- what two users get whose new entities are linked: all that was sent, and nothing else; the two stay joined
+-- what two users get whose new entities are linked: all that was sent, and nothing else; the two stay matched and joined
 pub record AllArrives (s : Scheme) (x : Meeting) (d : Duo) (talk : List Line) : Type 0 where
   pub sent_here : sent d.one.past ≡ said_here talk
   pub handed_there : handed d.other.past ≡ said_here talk
   pub sent_there : sent d.other.past ≡ said_there talk
   pub handed_here : handed d.one.past ≡ said_there talk
-  pub joined : Joined s x d
+  pub value : List ℕ
+  pub matched : Matched value (s.first + length talk) d
+  pub joined : Joined s x value d
 
 -- so it is with any talk of two entities that were ready
 abbrev pub TalkSucceeds : Type 0
