@@ -12,45 +12,58 @@ use Rattle.suite.proofs.CallLaws.{room_enough}
 use Rattle.protocol.specs.declared.states.State.{State}
 use Rattle.protocol.specs.declared.states.State.TheVariants.{EstablishedSender, EstablishedRecipient, ConfirmedSse}
 use Rattle.protocol.specs.declared.outcomes.Confirmation.TheVariants as conf
-use Rattle.protocol.specs.Models.{Model, Ancillary, fresh, no_seed}
+use Rattle.protocol.specs.Models.{Model, fresh, no_seed}
 use Rattle.protocol.specs.Steps.{said_by}
 use Rattle.protocol.specs.Calls.{Call, GivenBytes, invoke, frame, Turn, turn}
-use Rattle.histories.specs.Histories.{Entry, History, entered, starts, confirms, answers, sent, handed}
-use Rattle.exchanges.specs.Duos.{End, Duo, begun, last_answer, last_written, Meeting, asks, replies, checks, verifies, completes, activated}
+use Rattle.histories.specs.Histories.{History, entered, starts, confirms, answers, sent, handed}
+use Rattle.exchanges.specs.Duos.{Supply, Duo, begun, last_answer, Meeting, asks, replies, checks, verifies, completes, activated}
 use Rattle.exchanges.specs.Exchanges.{OfRootAndValue, KindsOfRootAndValue, NewIsFresh, Ready, opposite, InLink, Matched, LinkSucceeds, Shared, SecretSucceeds, calls_in, IsRun, SomeReady}
 use Rattle.exchanges.proofs.Shapes.{bare, agreed_suite, Base, base_of, bare_under, agreed_under, linked_in, one_gone, both_gone, selecting, sharing, linking, Clears}
 use Rattle.exchanges.proofs.Turns.{stepped, ask_is, reply_is, check_is, confirm_sse, confirm_sch, complete_sse, complete_sch, tell_is}
 use Rattle.exchanges.proofs.Joints.{Joint, new_joint, joined}
-use Rattle.exchanges.proofs.Records.{run_called}
+use Rattle.exchanges.proofs.Records.{run_called, run_hears}
 
 -- An activation, by what each of its five calls does.
 module _ (s : Scheme) (v : Service) (x : Meeting) where
-  -- a frame passed on, and what it did
-  abbrev heard : Turn → Turn → Entry
-  heard from to = entered (frame from.reply x.spare x.room) to
+  -- a frame passed on, to an end that has made so many calls
+  abbrev heard : Supply → ℕ → Turn → Call
+  heard u k from = frame from.reply (u.beside k) (u.room k)
+
+  abbrev invoking : Call
+  invoking = invoke v s.pid x.seed (x.my_supply.room 0)
 
   -- the two after five such turns
   abbrev duo : Turn → Turn → Turn → Turn → Turn → Duo
   duo t1 t2 t3 t4 t5 = record {
-    one = record { model = t5.model; past = heard t4 t5 ∷ heard t2 t3 ∷ entered (invoke v s.pid x.seed x.room) t1 ∷ [] };
-    other = record { model = t4.model; past = heard t3 t4 ∷ entered (frame t1.reply x.answering x.room) t2 ∷ [] };
+    one = record {
+      model = t5.model;
+      past = entered (heard x.my_supply 2 t4) t5 ∷ entered (heard x.my_supply 1 t2) t3 ∷ entered invoking t1 ∷ [];
+      supply = x.my_supply;
+    };
+    other = record {
+      model = t4.model;
+      past = entered (heard x.their_supply 1 t3) t4 ∷ entered (heard x.their_supply 0 t1) t2 ∷ [];
+      supply = x.their_supply;
+    };
   }
 
   -- what holds after five turns holds of the activation whose calls do these
   five : (Q : Duo → Type 0) (t1 t2 t3 t4 t5 : Turn)
-      → turn s (fresh x.mine) (invoke v s.pid x.seed x.room) ≡ t1
-      → turn s (fresh x.theirs) (frame t1.reply x.answering x.room) ≡ t2
-      → turn s t1.model (frame t2.reply x.spare x.room) ≡ t3
-      → turn s t2.model (frame t3.reply x.spare x.room) ≡ t4
-      → turn s t3.model (frame t4.reply x.spare x.room) ≡ t5
+      → turn s (fresh x.mine) invoking ≡ t1
+      → turn s (fresh x.theirs) (heard x.their_supply 0 t1) ≡ t2
+      → turn s t1.model (heard x.my_supply 1 t2) ≡ t3
+      → turn s t2.model (heard x.their_supply 1 t3) ≡ t4
+      → turn s t3.model (heard x.my_supply 2 t4) ≡ t5
       → Q (duo t1 t2 t3 t4 t5) → Q (activated s v x)
   five Q t1 t2 t3 t4 t5 e1 e2 e3 e4 e5 end =
-      let h2 : Turn → Turn = λ a. turn s (fresh x.theirs) (frame a.reply x.answering x.room) in
-      let h : Turn → Turn → Turn = λ a b. turn s a.model (frame b.reply x.spare x.room) in
-      subst (λ a. let b = h2 a in let c = h a b in let d = h b c in Q (duo a b c d (h c d))) (sym e1)
-      (subst (λ b. let c = h t1 b in let d = h b c in Q (duo t1 b c d (h c d))) (sym e2)
-      (subst (λ c. let d = h t2 c in Q (duo t1 t2 c d (h c d))) (sym e3)
-      (subst (λ d. Q (duo t1 t2 t3 d (h t3 d))) (sym e4)
+      let h2 : Turn → Turn = λ a. turn s (fresh x.theirs) (heard x.their_supply 0 a) in
+      let h3 : Turn → Turn → Turn = λ a b. turn s a.model (heard x.my_supply 1 b) in
+      let h4 : Turn → Turn → Turn = λ b c. turn s b.model (heard x.their_supply 1 c) in
+      let h5 : Turn → Turn → Turn = λ c d. turn s c.model (heard x.my_supply 2 d) in
+      subst (λ a. let b = h2 a in let c = h3 a b in let d = h4 b c in Q (duo a b c d (h5 c d))) (sym e1)
+      (subst (λ b. let c = h3 t1 b in let d = h4 b c in Q (duo t1 b c d (h5 c d))) (sym e2)
+      (subst (λ c. let d = h4 t2 c in Q (duo t1 t2 c d (h5 c d))) (sym e3)
+      (subst (λ d. Q (duo t1 t2 t3 d (h5 t3 d))) (sym e4)
       (subst (λ e. Q (duo t1 t2 t3 t4 e)) (sym e5) end))))
 
 -- the calls of a history were given bytes
@@ -77,12 +90,26 @@ pub record Told (s : Scheme) (room : ℕ) (d : Duo) : Type 0 where
   pub mine_clear : Clears d.one.model
   pub their_clear : Clears d.other.model
 
+-- there is room, and seeds are as long as they are to be
+
+wide : (u : Supply) (k : ℕ) → ltb (u.room k) 255 ≡ false
+wide u k = room_enough (u.room k) (u.rooms k)
+
+sixteen : {xs : List ℕ} → Bytes16 xs → eqb (length xs) 16 ≡ true
+sixteen {xs} h = eq-eqb (length xs) 16 h.long
+
 -- between two suites with one root and no key
-module _ (s : Scheme) (law : Lawful s) (free : OfRootAndValue s) (root : List ℕ) (last last' n n' room : ℕ) (seed : List ℕ) (answering spare : Ancillary)
-    (seed_is : Bytes16 seed) (answering_is : Bytes16 answering.seed) (spare_is : Bytes16 spare.seed) (enough : 255 ≤ room)
-    (base : Base root last n) (base' : Base root last' n') where
+module _ (s : Scheme) (law : Lawful s) (free : OfRootAndValue s) (root : List ℕ) (last last' n n' : ℕ) (u u' : Supply) (seed : List ℕ)
+    (seed_is : Bytes16 seed) (base : Base root last n) (base' : Base root last' n') where
   abbrev meeting : Meeting
-  meeting = record { mine = bare root last n; theirs = bare root last' n'; seed = seed; answering = answering; spare = spare; room = room }
+  meeting = record { mine = bare root last n; theirs = bare root last' n'; my_supply = u; their_supply = u'; seed = seed }
+
+  -- the seed that the other brings beside ACT_REQ
+  abbrev answering : List ℕ
+  answering = (u'.beside 0).seed
+
+  answering_is : Bytes16 answering
+  answering_is = u'.seeds 0
 
   -- the two keyrings before the shared secret
   abbrev mine_bare : Keyring
@@ -102,7 +129,7 @@ module _ (s : Scheme) (law : Lawful s) (free : OfRootAndValue s) (root : List �
   offer = s.offer_of mine_bare seed
 
   abbrev value : List ℕ
-  value = s.secret_of their_bare 2 answering.seed offer
+  value = s.secret_of their_bare 2 answering offer
 
   offer_bytes : Bytes offer
   offer_bytes = law.offer_bytes mine_bare seed mine_first.formed seed_is
@@ -112,7 +139,7 @@ module _ (s : Scheme) (law : Lawful s) (free : OfRootAndValue s) (root : List �
 
   -- the shared secret has sixteen bytes
   value16 : Bytes16 value
-  value16 = law.secret_is their_bare answering.seed offer 2 their_first.formed answering_is offer_bytes refl offer_fits
+  value16 = law.secret_is their_bare answering offer 2 their_first.formed answering_is offer_bytes refl offer_fits
 
   -- the two keyrings with the shared secret
   abbrev mine_ring : Keyring
@@ -129,7 +156,7 @@ module _ (s : Scheme) (law : Lawful s) (free : OfRootAndValue s) (root : List �
 
   -- the Recipient's offer, and the check values that the Sender and the Recipient write
   abbrev reply : List ℕ
-  reply = s.offer_of their_ring answering.seed
+  reply = s.offer_of their_ring answering
 
   abbrev asked : List ℕ
   asked = s.check_of mine_ring (n + 1) value 1
@@ -139,7 +166,7 @@ module _ (s : Scheme) (law : Lawful s) (free : OfRootAndValue s) (root : List �
 
   -- the Sender comes to the same secret, and both to the same check values
   agreed : s.secret_of mine_bare 1 seed reply ≡ value
-  agreed = law.agrees root mine_bare their_bare mine_bare their_ring seed answering.seed mine_first their_first mine_first their_under seed_is answering_is
+  agreed = law.agrees root mine_bare their_bare mine_bare their_ring seed answering mine_first their_first mine_first their_under seed_is answering_is
 
   asked_alike : s.check_of their_ring (n' + 1) value 1 ≡ asked
   asked_alike = free.checks root their_ring mine_ring value (n' + 1) (n + 1) 1 their_under mine_under
@@ -147,13 +174,7 @@ module _ (s : Scheme) (law : Lawful s) (free : OfRootAndValue s) (root : List �
   replied_alike : s.check_of mine_ring (n + 1) value 2 ≡ replied
   replied_alike = free.checks root mine_ring their_ring value (n + 1) (n' + 1) 2 mine_under their_under
 
-  -- there is room, and nothing is too long
-
-  wide : ltb room 255 ≡ false
-  wide = room_enough room enough
-
-  sixteen : {xs : List ℕ} → Bytes16 xs → eqb (length xs) 16 ≡ true
-  sixteen {xs} h = eq-eqb (length xs) 16 h.long
+  -- nothing is too long
 
   fits : (v : Service) (said : Said) → length (fields said) ≤ 65 → ltb 255 (length (said_by v said)) ≡ false
   fits v said h = le-ltb 255 (length (said_by v said)) (omega arith)
@@ -207,23 +228,23 @@ module _ (s : Scheme) (law : Lawful s) (free : OfRootAndValue s) (root : List �
   abbrev turn3 : Service → Turn
   turn3 v = stepped (mine_sharing EstablishedSender v) conf.Nothing (n + 1) (said_by v (vfy_req asked))
 
-  first : (v : Service) → turn s (fresh (bare root last n)) (invoke v s.pid seed room) ≡ turn1 v
-  first v = ask_is s root last n room wide v seed (sixteen seed_is)
+  first : (v : Service) → turn s (fresh (bare root last n)) (invoke v s.pid seed (u.room 0)) ≡ turn1 v
+  first v = ask_is s root last n (u.room 0) (wide u 0) v seed (sixteen seed_is)
 
-  second : (v : Service) → n' < last' → turn s (fresh (bare root last' n')) (frame (said_act_req v) answering room) ≡ turn2 v
+  second : (v : Service) → n' < last' → turn s (fresh (bare root last' n')) (frame (said_act_req v) (u'.beside 0) (u'.room 0)) ≡ turn2 v
   second v h =
       let most = offer_most mine_bare seed mine_first seed_is in
       let short = fits v (act_req s.pid offer) (omega arith) in
-      reply_is s root last' n' room wide v offer answering (sixteen answering_is) short offer_fits (left n' last' h)
+      reply_is s root last' n' (u'.room 0) (wide u' 0) v offer (u'.beside 0) (sixteen answering_is) short offer_fits (left n' last' h)
 
-  third : (v : Service) → n < last → turn s (selecting (bare root last n) v seed) (frame (said_act_res v) spare room) ≡ turn3 v
+  third : (v : Service) → n < last → turn s (selecting (bare root last n) v seed) (frame (said_act_res v) (u.beside 1) (u.room 1)) ≡ turn3 v
   third v h =
-      let most = offer_most their_ring answering.seed their_under answering_is in
+      let most = offer_most their_ring answering their_under answering_is in
       let short = fits v (act_res reply) (omega arith) in
-      let fit = law.fits root their_ring mine_bare answering.seed their_under mine_first answering_is in
+      let fit = law.fits root their_ring mine_bare answering their_under mine_first answering_is in
       let ring : List ℕ → Keyring = λ z. keyring_of (agreed_suite root last (n + 1) z) in
       let asks : List ℕ → Turn = λ z. stepped (sharing root last (n + 1) z EstablishedSender v Sender seed) conf.Nothing (n + 1) (said_by v (vfy_req (s.check_of (ring z) (n + 1) z 1))) in
-      check_is s root last n room wide v reply seed spare (sixteen spare_is) short fit (left n last h) ∙ ap asks agreed
+      check_is s root last n (u.room 1) (wide u 1) v reply seed (u.beside 1) (sixteen (u.seeds 1)) short fit (left n last h) ∙ ap asks agreed
 
   asked_fits : (v : Service) → ltb 255 (length (said_by v (vfy_req asked))) ≡ false
   asked_fits v = fits v (vfy_req asked) (check_most mine_ring (n + 1) 1 mine_under refl)
@@ -258,20 +279,23 @@ module _ (s : Scheme) (law : Lawful s) (free : OfRootAndValue s) (root : List �
   abbrev turn5_sch : Turn
   turn5_sch = stepped mine_linked conf.Established ((n + 1) + 1) []
 
-  fourth_sch : n' + 2 ≤ last' → turn s (their_sharing EstablishedRecipient Sch) (frame (said_by Sch (vfy_req asked)) spare room) ≡ turn4_sch
+  fourth_sch : n' + 2 ≤ last'
+      → turn s (their_sharing EstablishedRecipient Sch) (frame (said_by Sch (vfy_req asked)) (u'.beside 1) (u'.room 1)) ≡ turn4_sch
   fourth_sch h' =
       let more = left (n' + 1) last' (omega arith) in
-      confirm_sch s root last' (n' + 1) room wide value spare (sixteen spare_is) asked replied asked_alike refl (asked_fits Sch) more
+      confirm_sch s root last' (n' + 1) (u'.room 1) (wide u' 1) value (u'.beside 1) (sixteen (u'.seeds 1))
+      asked replied asked_alike refl (asked_fits Sch) more
 
-  fifth_sch : n + 2 ≤ last → turn s (mine_sharing EstablishedSender Sch) (frame (said_by Sch (vfy_res replied)) spare room) ≡ turn5_sch
+  fifth_sch : n + 2 ≤ last → turn s (mine_sharing EstablishedSender Sch) (frame (said_by Sch (vfy_res replied)) (u.beside 2) (u.room 2)) ≡ turn5_sch
   fifth_sch h =
       let more = left (n + 1) last (omega arith) in
-      complete_sch s root last (n + 1) room wide value spare (sixteen spare_is) asked replied refl replied_alike seed (replied_fits Sch) more
+      complete_sch s root last (n + 1) (u.room 2) (wide u 2) value (u.beside 2) (sixteen (u.seeds 2))
+      asked replied refl replied_alike seed (replied_fits Sch) more
 
   -- all five
   link_up : n + 2 ≤ last → n' + 2 ≤ last' → Started s (activated s Sch meeting)
   link_up h h' =
-      let reply_bytes = law.offer_bytes their_ring answering.seed their_under.formed answering_is in
+      let reply_bytes = law.offer_bytes their_ring answering their_under.formed answering_is in
       let asked_bytes = law.check_bytes mine_ring value (n + 1) 1 mine_under.formed value16 refl in
       let replied_bytes = law.check_bytes their_ring value (n' + 1) 2 their_under.formed value16 refl in
       five s Sch meeting (Started s) (turn1 Sch) (turn2 Sch) (turn3 Sch) turn4_sch turn5_sch
@@ -284,8 +308,8 @@ module _ (s : Scheme) (law : Lawful s) (free : OfRootAndValue s) (root : List �
         joint = new_joint (starts (omega arith) refl) (starts (omega arith) refl);
         none_sent = (refl, refl);
         none_handed = (refl, refl);
-        mine_given = (((lit< tt, replied_bytes), spare_is.bytes), (((lit< tt, reply_bytes), spare_is.bytes), (seed_is.bytes, tt)));
-        their_given = (((lit< tt, asked_bytes), spare_is.bytes), (((lit< tt, (law.pid_byte, offer_bytes)), answering_is.bytes), tt));
+        mine_given = (((lit< tt, replied_bytes), (u.seeds 2).bytes), (((lit< tt, reply_bytes), (u.seeds 1).bytes), (seed_is.bytes, tt)));
+        their_given = (((lit< tt, asked_bytes), (u'.seeds 1).bytes), (((lit< tt, (law.pid_byte, offer_bytes)), answering_is.bytes), tt));
         mine_clear = both_gone root last (n + 1) value mine_link (omega arith);
         their_clear = both_gone root last' (n' + 1) value their_link (omega arith);
       })
@@ -298,11 +322,15 @@ module _ (s : Scheme) (law : Lawful s) (free : OfRootAndValue s) (root : List �
   abbrev turn5_sse : Turn
   turn5_sse = stepped (mine_sharing ConfirmedSse Sse) conf.Established 0 []
 
-  fourth_sse : turn s (their_sharing EstablishedRecipient Sse) (frame (said_by Sse (vfy_req asked)) spare room) ≡ turn4_sse
-  fourth_sse = confirm_sse s root last' (n' + 1) room wide value spare (sixteen spare_is) asked replied asked_alike refl (asked_fits Sse)
+  fourth_sse : turn s (their_sharing EstablishedRecipient Sse) (frame (said_by Sse (vfy_req asked)) (u'.beside 1) (u'.room 1)) ≡ turn4_sse
+  fourth_sse =
+      confirm_sse s root last' (n' + 1) (u'.room 1) (wide u' 1) value (u'.beside 1) (sixteen (u'.seeds 1))
+      asked replied asked_alike refl (asked_fits Sse)
 
-  fifth_sse : turn s (mine_sharing EstablishedSender Sse) (frame (said_by Sse (vfy_res replied)) spare room) ≡ turn5_sse
-  fifth_sse = complete_sse s root last (n + 1) room wide value spare (sixteen spare_is) asked replied refl replied_alike seed (replied_fits Sse)
+  fifth_sse : turn s (mine_sharing EstablishedSender Sse) (frame (said_by Sse (vfy_res replied)) (u.beside 2) (u.room 2)) ≡ turn5_sse
+  fifth_sse =
+      complete_sse s root last (n + 1) (u.room 2) (wide u 2) value (u.beside 2) (sixteen (u.seeds 2))
+      asked replied refl replied_alike seed (replied_fits Sse)
 
   -- all five
   share : n + 1 ≤ last → n' + 1 ≤ last' → (more : ℕ) → 16 ≤ more → Told s more (activated s Sse meeting)
@@ -344,37 +372,36 @@ their_base r = record { root_is = r.mine_formed.keyring.root; below = r.theirs_f
 pub link_starts : (s : Scheme) → Lawful s → OfRootAndValue s → (x : Meeting) → Ready Sch x → Started s (activated s Sch x)
 link_starts s law free x r =
     subst (λ z. Started s (activated s Sch z)) (sym (as_bare Sch x r))
-    (link_up s law free x.mine.root x.mine.last x.theirs.last x.mine.newest x.theirs.newest x.room x.seed x.answering x.spare
-    r.seed_is r.answering_is r.spare_is r.enough (base_of r.mine_formed) (their_base r) r.mine_left r.theirs_left)
+    (link_up s law free x.mine.root x.mine.last x.theirs.last x.mine.newest x.theirs.newest x.my_supply x.their_supply x.seed
+    r.seed_is (base_of r.mine_formed) (their_base r) r.mine_left r.theirs_left)
 
 pub secret_told : (s : Scheme) → Lawful s → OfRootAndValue s → (x : Meeting) → Ready Sse x → (room : ℕ) → 16 ≤ room
     → Told s room (activated s Sse x)
 secret_told s law free x r more big =
     subst (λ z. Told s more (activated s Sse z)) (sym (as_bare Sse x r))
-    (share s law free x.mine.root x.mine.last x.theirs.last x.mine.newest x.theirs.newest x.room x.seed x.answering x.spare
-    r.seed_is r.answering_is r.spare_is r.enough (base_of r.mine_formed) (their_base r) r.mine_left r.theirs_left more big)
+    (share s law free x.mine.root x.mine.last x.theirs.last x.mine.newest x.theirs.newest x.my_supply x.their_supply x.seed
+    r.seed_is (base_of r.mine_formed) (their_base r) r.mine_left r.theirs_left more big)
 
 pub secret_succeeds : SecretSucceeds
 secret_succeeds s law free x r more big = (secret_told s law free x r more big).shared
 
 -- an activation is a run of each of the two
 
-new_run : (s : Scheme) (means : Meaning) → IsRun s means (begun means)
-new_run s means = record { bytes = tt; model = refl; past = refl }
+new_run : (s : Scheme) (means : Meaning) (supply : Supply) → IsRun s means (begun means supply)
+new_run s means supply = record { bytes = tt; model = refl; past = refl }
 
 pub mine_activated : (s : Scheme) (x : Meeting) → Started s (activated s Sch x) → IsRun s x.mine (completes s Sch x)
 mine_activated s x start =
-    let given : End → Call = λ e. frame (last_written e.past) x.spare x.room in
-    run_called s x.mine (given (verifies s Sch x)) start.mine_given.0
-    (run_called s x.mine (given (replies s Sch x)) start.mine_given.1.0
-    (run_called s x.mine (invoke Sch s.pid x.seed x.room) start.mine_given.1.1.0
-    (new_run s x.mine)))
+    run_hears s x.mine (verifies s Sch x) start.mine_given.0.0
+    (run_hears s x.mine (replies s Sch x) start.mine_given.1.0.0
+    (run_called s x.mine (invoke Sch s.pid x.seed (x.my_supply.room 0)) start.mine_given.1.1.0
+    (new_run s x.mine x.my_supply)))
 
 pub theirs_activated : (s : Scheme) (x : Meeting) → Started s (activated s Sch x) → IsRun s x.theirs (verifies s Sch x)
 theirs_activated s x start =
-    run_called s x.theirs (frame (last_written (checks s Sch x).past) x.spare x.room) start.their_given.0
-    (run_called s x.theirs (frame (last_written (asks s Sch x).past) x.answering x.room) start.their_given.1.0
-    (new_run s x.theirs))
+    run_hears s x.theirs (checks s Sch x) start.their_given.0.0
+    (run_hears s x.theirs (asks s Sch x) start.their_given.1.0.0
+    (new_run s x.theirs x.their_supply))
 
 pub link_succeeds : LinkSucceeds
 link_succeeds s law free x r =
@@ -406,10 +433,21 @@ zeros_are =
 abbrev two_left : Meaning
 two_left = bare no_seed 2 0
 
+-- zeros beside each frame
+abbrev zeros_brought : Supply
+zeros_brought = record {
+  beside = λ k. record { seed = no_seed };
+  room = λ k. 255;
+  out = λ k. 200;
+  seeds = λ k. zeros_are;
+  rooms = λ k. lit≤ tt;
+  outs = λ k. lit≤ tt;
+}
+
 pub some_ready : SomeReady
 some_ready =
     let formed : WellFormed two_left = record { keyring = (bare_under no_seed 2 0 zeros_are).formed; last = lit< tt; newest = lit≤ tt } in (
-      record { mine = two_left; theirs = two_left; seed = no_seed; answering = record { seed = no_seed }; spare = record { seed = no_seed }; room = 255 },
+      record { mine = two_left; theirs = two_left; my_supply = zeros_brought; their_supply = zeros_brought; seed = no_seed },
       record {
         mine_formed = formed;
         theirs_formed = formed;
@@ -419,8 +457,5 @@ some_ready =
         mine_left = lit≤ tt;
         theirs_left = lit≤ tt;
         seed_is = zeros_are;
-        answering_is = zeros_are;
-        spare_is = zeros_are;
-        enough = lit≤ tt;
       },
     )

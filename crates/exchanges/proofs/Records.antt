@@ -1,5 +1,5 @@
 -- A record that is sent in one of two matched link sessions is handed out in the other.
-use Rattle.std.proofs.Common.{◌≡◌, ℕ, ◌+◌, ◌<◌, ◌≤◌, true, false, eqb, List, [], ◌∷◌, ◌++◌, length, Some, sym, refl, ap, ◌∙◌, subst, inl, append_assoc, append-nil, arith, lit<}
+use Rattle.std.proofs.Common.{◌≡◌, ℕ, suc, ◌+◌, ◌<◌, ◌≤◌, true, false, eqb, List, [], ◌∷◌, ◌++◌, length, Some, sym, refl, ap, ◌∙◌, subst, inl, append_assoc, append-nil, arith, lit<}
 use Rattle.frame.specs.declared.types.Service.TheVariants.{Sch}
 use Rattle.frame.specs.Frames.{enc}
 use Rattle.suite.specs.declared.types.Role.{Role}
@@ -14,7 +14,7 @@ use Rattle.protocol.specs.Steps.{said_by}
 use Rattle.protocol.specs.Calls.{Call, GivenBytes, send, retrieve_data, frame, Turn, turn}
 use Rattle.histories.specs.Histories.{History, entered, after, goes_on, confirms, answers, sent, handed}
 use Rattle.histories.specs.Sessions.{encs, In}
-use Rattle.exchanges.specs.Duos.{End, Duo, called, last_answer, last_written, Meeting, Line, here, there, turned, passed, talked, said_here, said_there}
+use Rattle.exchanges.specs.Duos.{End, Duo, next_beside, next_room, next_out, called, last_answer, last_written, hears, Line, here, there, turned, sends, passed, talked, said_here, said_there}
 use Rattle.exchanges.specs.Exchanges.{opposite, InLink, Matched, Fit, AllFit, HandedOver, RecordsPass, RecordPasses, calls_in, IsRun}
 use Rattle.suite.proofs.CallLaws.{role_ok}
 use Rattle.suite.proofs.KeyLaws.{value_formed}
@@ -40,6 +40,15 @@ run_called s means {e} c given r = record {
       ap (λ z. entered c (turn s z c) ∷ e.past) r.model
       ∙ ap (λ z. entered c (turn s (after s (fresh means) (calls_in e.past)) c) ∷ z) r.past;
 }
+
+-- the call by which these bytes are passed on to an end
+abbrev pub hearing : End → List ℕ → Call
+hearing to bytes = frame bytes (next_beside to) (next_room to)
+
+-- so that it stays a run
+pub run_hears : (s : Scheme) (means : Meaning) {to : End} (from : End) → Bytes (last_written from.past) → IsRun s means to
+    → IsRun s means (hears s to from)
+run_hears s means {to} from b r = run_called s means (hearing to (last_written from.past)) (b, (to.supply.seeds (length to.past)).bytes) r
 
 -- One record.
 
@@ -76,8 +85,8 @@ opposite_differs : (r : Role) → eqb (role_byte r) (role_byte (opposite r)) ≡
 opposite_differs Sender = refl
 opposite_differs Recipient = refl
 
-module _ (s : Scheme) (law : Lawful s) (x : Meeting) (spare : Bytes16 x.spare.seed) (enough : 255 ≤ x.room) (value : List ℕ) (number : ℕ) (d : Duo)
-    (M : Matched value number d) (plain : List ℕ) (fit : Fit plain) (low : s.first ≤ number) (below : number < s.final) where
+module _ (s : Scheme) (law : Lawful s) (value : List ℕ) (number : ℕ) (d : Duo) (M : Matched value number d) (plain : List ℕ) (fit : Fit plain)
+    (low : s.first ≤ number) (below : number < s.final) where
   -- the two, and what the one seals
 
   abbrev sender : Model
@@ -123,8 +132,8 @@ module _ (s : Scheme) (law : Lawful s) (x : Meeting) (spare : Bytes16 x.spare.se
   differs = ap (λ z. eqb role (role_byte z)) M.roles ∙ opposite_differs sender.role
 
   -- the three calls, by what they do
-  abbrev sends : Turn
-  sends = stepped (record sender { number = sender.number + 1 }) conf.DataSent 0 (said_by Sch (enc payload))
+  abbrev seals : Turn
+  seals = stepped (record sender { number = sender.number + 1 }) conf.DataSent 0 (said_by Sch (enc payload))
 
   abbrev takes : Turn
   takes = stepped (record receiver { number = receiver.number + 1; held = plain }) conf.DataAvailable 0 []
@@ -132,41 +141,51 @@ module _ (s : Scheme) (law : Lawful s) (x : Meeting) (spare : Bytes16 x.spare.se
   abbrev gives : Turn
   gives = stepped (record receiver { number = receiver.number + 1; held = [] }) conf.Nothing 0 plain
 
-  first : turn s sender (send plain x.room) ≡ sends
+  -- which calls they are made by
+  abbrev sending : Call
+  sending = send plain (next_room d.one)
+
+  abbrev retrieving : Call
+  retrieving = retrieve_data (d.other.supply.out (suc (length d.other.past)))
+
+  first : turn s sender sending ≡ seals
   first =
       let at = M.mine_at in
-      send_is s sender x.room enough plain fit value M.mine.confirmed M.mine.key (omega arith)
+      send_is s sender plain fit (next_room d.one) (d.one.supply.rooms (length d.one.past)) value M.mine.confirmed M.mine.key (omega arith)
 
-  second : turn s receiver (frame sends.reply x.spare x.room) ≡ takes
+  second : turn s receiver (hearing d.other seals.reply) ≡ takes
   second =
       let at = M.theirs_at in
-      hear_is s receiver x.room enough plain fit value payload x.spare role M.theirs (omega arith) short spare differs opened
+      let k = length d.other.past in
+      hear_is s receiver plain fit (next_room d.other) (d.other.supply.rooms k) (next_beside d.other) (d.other.supply.seeds k)
+      value payload role M.theirs (omega arith) short differs opened
 
-  third : turn s takes.model (retrieve_data x.room) ≡ gives
+  third : turn s takes.model retrieving ≡ gives
   third =
       let c = M.theirs.confirmed in
-      data_is s takes.model x.room enough plain fit (record { state = c.state; service = c.service }) refl
+      let k = suc (length d.other.past) in
+      data_is s takes.model plain fit (d.other.supply.out k) (d.other.supply.outs k) (record { state = c.state; service = c.service }) refl
 
   -- the two after these calls
   abbrev after_calls : Turn → Turn → Turn → Duo
   after_calls a b c = record {
-    one = record { model = a.model; past = entered (send plain x.room) a ∷ d.one.past };
-    other = record { model = c.model; past = entered (retrieve_data x.room) c ∷ entered (frame a.reply x.spare x.room) b ∷ d.other.past };
+    one = record d.one { model = a.model; past = entered sending a ∷ d.one.past };
+    other = record d.other { model = c.model; past = entered retrieving c ∷ entered (hearing d.other a.reply) b ∷ d.other.past };
   }
 
   -- two joint sessions stay so: the frame that came is the one that was sent
-  joint_by : Joint d → Joint (after_calls sends takes gives)
+  joint_by : Joint d → Joint (after_calls seals takes gives)
   joint_by j =
       let said = encs j.mine_since in
       let heard = encs j.their_since in
-      let said' = said ++ (sends.reply ∷ []) in
+      let said' = said ++ (seals.reply ∷ []) in
       let heard' = heard ++ [] ++ [] in
-      let more : Among said said' = among_more said (sends.reply ∷ []) in
+      let more : Among said said' = among_more said (seals.reply ∷ []) in
       let same : Among heard heard' = λ z h. among_more (heard ++ []) [] z (among_more heard [] z h) in
-      let copy : In sends.reply (heard' ++ said') = in_back sends.reply heard' said' (in_back sends.reply said (sends.reply ∷ []) (inl refl)) in
+      let copy : In seals.reply (heard' ++ said') = in_back seals.reply heard' said' (in_back seals.reply said (seals.reply ∷ []) (inl refl)) in
       record {
-        mine_since = entered (send plain x.room) sends ∷ j.mine_since;
-        their_since = entered (retrieve_data x.room) gives ∷ entered (frame sends.reply x.spare x.room) takes ∷ j.their_since;
+        mine_since = entered sending seals ∷ j.mine_since;
+        their_since = entered retrieving gives ∷ entered (hearing d.other seals.reply) takes ∷ j.their_since;
         mine = goes_on j.mine refl;
         theirs = goes_on (goes_on j.theirs refl) refl;
         mine_copies = (tt, only_more (said ++ heard) (said' ++ heard') (among_both said heard said' heard' more same) j.mine_since j.mine_copies);
@@ -176,7 +195,7 @@ module _ (s : Scheme) (law : Lawful s) (x : Meeting) (spare : Bytes16 x.spare.se
         );
       }
 
-  passed_by : Passed value number d plain (after_calls sends takes gives)
+  passed_by : Passed value number d plain (after_calls seals takes gives)
   passed_by = record {
     matched = record {
       mine = moved (sender.number + 1) M.mine.none_held M.mine;
@@ -202,14 +221,14 @@ module _ (s : Scheme) (law : Lawful s) (x : Meeting) (spare : Bytes16 x.spare.se
   }
 
   -- so it is with the calls themselves
-  pass : Passed value number d plain (passed s x d plain)
+  pass : Passed value number d plain (passed s d plain)
   pass =
-      let hear : Turn → Turn = λ z. turn s receiver (frame z.reply x.spare x.room) in
-      let retrieve : Turn → Turn = λ z. turn s z.model (retrieve_data x.room) in
+      let hear : Turn → Turn = λ z. turn s receiver (hearing d.other z.reply) in
+      let retrieve : Turn → Turn = λ z. turn s z.model retrieving in
       let P : Turn → Turn → Turn → Type 0 = λ a b c. Passed value number d plain (after_calls a b c) in
       subst (λ z. P z (hear z) (retrieve (hear z))) (sym first)
-      (subst (λ z. P sends z (retrieve z)) (sym second)
-      (subst (λ z. P sends takes z) (sym third) passed_by))
+      (subst (λ z. P seals z (retrieve z)) (sym second)
+      (subst (λ z. P seals takes z) (sym third) passed_by))
 
 -- Many records.
 
@@ -317,42 +336,43 @@ none_said s value number d M = record {
 at_number : {s : Scheme} {value : List ℕ} {n k : ℕ} {d e : Duo} {talk : List Line} → n ≡ k → Goes s value n d talk e → Goes s value k d talk e
 at_number {s} {value} {d} {e} {talk} same g = subst (λ z. Goes s value z d talk e) same g
 
-module _ (s : Scheme) (law : Lawful s) (x : Meeting) (spare : Bytes16 x.spare.seed) (enough : 255 ≤ x.room) (value : List ℕ) where
+module _ (s : Scheme) (law : Lawful s) (value : List ℕ) where
   -- one record of the one
   line_goes : (number : ℕ) (d : Duo) (plain : List ℕ) → Matched value number d → Fit plain → s.first ≤ number → number < s.final
-      → Goes s value (number + 1) d (here plain ∷ []) (passed s x d plain)
+      → Goes s value (number + 1) d (here plain ∷ []) (passed s d plain)
   line_goes number d plain M fit low below =
-      let p = pass s law x spare enough value number d M plain fit low below in
-      let heard : Call = frame (last_written (called s d.one (send plain x.room)).past) x.spare x.room in
+      let p = pass s law value number d M plain fit low below in
       record {
         matched = p.matched;
         over = p.over;
         mine_keys = p.mine_keys;
         their_keys = p.their_keys;
         joint = p.joint;
-        mine_run = λ means r. run_called s means (send plain x.room) fit.bytes r;
-        their_run = λ means r. run_called s means (retrieve_data x.room) tt (run_called s means heard (p.bytes, spare.bytes) r);
+        mine_run = λ means r. run_called s means (send plain (next_room d.one)) fit.bytes r;
+        their_run = λ means r.
+            let from = sends s d.one plain in
+            run_called s means (retrieve_data (next_out (hears s d.other from))) tt (run_hears s means from p.bytes r);
       }
 
   -- any records, as far as the numbers reach
   pub talk_goes : (number : ℕ) (d : Duo) → s.first ≤ number → Matched value number d → (talk : List Line) → AllFit talk
-      → number + length talk ≤ s.final → Goes s value (number + length talk) d talk (talked s x d talk)
+      → number + length talk ≤ s.final → Goes s value (number + length talk) d talk (talked s d talk)
   talk_goes number d low M [] fit most = at_number (omega arith) (none_said s value number d M)
   talk_goes number d low M (here plain ∷ later) fit most =
       let g = line_goes number d plain M fit.0 (omega arith) (omega arith) in
-      let h = talk_goes (number + 1) (passed s x d plain) (omega arith) g.matched later fit.1 (omega arith) in
+      let h = talk_goes (number + 1) (passed s d plain) (omega arith) g.matched later fit.1 (omega arith) in
       at_number (omega arith) (joined (here plain) later g h)
   talk_goes number d low M (there plain ∷ later) fit most =
       let g = turn_goes plain (line_goes number (turned d) plain (turn_matched value number d M) fit.0 (omega arith) (omega arith)) in
-      let h = talk_goes (number + 1) (turned (passed s x (turned d) plain)) (omega arith) g.matched later fit.1 (omega arith) in
+      let h = talk_goes (number + 1) (turned (passed s (turned d) plain)) (omega arith) g.matched later fit.1 (omega arith) in
       at_number (omega arith) (joined (there plain) later g h)
 
 pub records_pass : RecordsPass
-records_pass s law x spare enough value number d low M talk fit most =
-    let g = talk_goes s law x spare enough value number d low M talk fit most in
+records_pass s law value number d low M talk fit most =
+    let g = talk_goes s law value number d low M talk fit most in
     (g.matched, g.over)
 
 pub record_passes : RecordPasses
-record_passes s law x spare enough value number d low below M plain fit =
-    let p = pass s law x spare enough value number d M plain fit low below in
+record_passes s law value number d low below M plain fit =
+    let p = pass s law value number d M plain fit low below in
     record { confirmed = p.confirmed; available = p.available; retrieved = p.retrieved; exactly = p.exactly; matched = p.matched }

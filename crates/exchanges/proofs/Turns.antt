@@ -64,17 +64,17 @@ module _ (s : Scheme) (root : List ℕ) (last n room : ℕ) (wide : ltb room 255
   asks_by v seed value = ap (λ z. s.check_of (keyring_of (agreed_suite root last (n + 1) value)) (n + 1) z 1) (secret_is (n + 1) value)
 
   -- ACT_RES
-  pub check_is : (v : Service) (offer seed : List ℕ) (spare : Ancillary) → eqb (length spare.seed) 16 ≡ true
+  pub check_is : (v : Service) (offer seed : List ℕ) (beside : Ancillary) → eqb (length beside.seed) 16 ≡ true
       → ltb 255 (length (said_by v (act_res offer))) ≡ false → s.fit_of (keyring_of (bare root last n)) offer ≡ true → eqb n last ≡ false
       → let value = s.secret_of (keyring_of (bare root last n)) 1 seed offer in
-      turn s (selecting (bare root last n) v seed) (frame (said_by v (act_res offer)) spare room)
+      turn s (selecting (bare root last n) v seed) (frame (said_by v (act_res offer)) beside room)
       ≡ stepped (asking v seed value) conf.Nothing (n + 1) (said_by v (vfy_req (s.check_of (keyring_of (agreed_suite root last (n + 1) value)) (n + 1) value 1)))
-  check_is Sse offer seed spare long short fit left = let own = asks_by Sse seed (s.secret_of (keyring_of (bare root last n)) 1 seed offer) in rw (wide, long, short, fit, left, own)
-  check_is Sch offer seed spare long short fit left = let own = asks_by Sch seed (s.secret_of (keyring_of (bare root last n)) 1 seed offer) in rw (wide, long, short, fit, left, own)
+  check_is Sse offer seed beside long short fit left = let own = asks_by Sse seed (s.secret_of (keyring_of (bare root last n)) 1 seed offer) in rw (wide, long, short, fit, left, own)
+  check_is Sch offer seed beside long short fit left = let own = asks_by Sch seed (s.secret_of (keyring_of (bare root last n)) 1 seed offer) in rw (wide, long, short, fit, left, own)
 
 -- with a shared secret, and the check values of the Sender and of the Recipient
 module _ (s : Scheme) (root : List ℕ) (last n room : ℕ) (wide : ltb room 255 ≡ false)
-    (value : List ℕ) (spare : Ancillary) (long : eqb (length spare.seed) 16 ≡ true) (asked replied : List ℕ)
+    (value : List ℕ) (beside : Ancillary) (long : eqb (length beside.seed) 16 ≡ true) (asked replied : List ℕ)
     (senders : s.check_of (keyring_of (agreed_suite root last n value)) n value 1 ≡ asked)
     (recipients : s.check_of (keyring_of (agreed_suite root last n value)) n value 2 ≡ replied) where
   -- before and after the confirmation
@@ -97,7 +97,7 @@ module _ (s : Scheme) (root : List ℕ) (last n room : ℕ) (wide : ltb room 255
 
   -- VFY_REQ
   pub confirm_sse : ltb 255 (length (said_by Sse (vfy_req asked))) ≡ false
-      → turn s (before EstablishedRecipient Sse Recipient no_seed) (frame (said_by Sse (vfy_req asked)) spare room)
+      → turn s (before EstablishedRecipient Sse Recipient no_seed) (frame (said_by Sse (vfy_req asked)) beside room)
       ≡ stepped (before ConfirmedSse Sse Recipient no_seed) conf.Established 0 (said_by Sse (vfy_res replied))
   confirm_sse short =
       let theirs = checks EstablishedRecipient Sse Recipient Sender no_seed ∙ senders in
@@ -106,7 +106,7 @@ module _ (s : Scheme) (root : List ℕ) (last n room : ℕ) (wide : ltb room 255
       rw (wide, long, short, theirs, same, own)
 
   pub confirm_sch : ltb 255 (length (said_by Sch (vfy_req asked))) ≡ false → eqb n last ≡ false
-      → turn s (before EstablishedRecipient Sch Recipient no_seed) (frame (said_by Sch (vfy_req asked)) spare room)
+      → turn s (before EstablishedRecipient Sch Recipient no_seed) (frame (said_by Sch (vfy_req asked)) beside room)
       ≡ stepped (linked Recipient no_seed) conf.Established (n + 1) (said_by Sch (vfy_res replied))
   confirm_sch short left =
       let theirs = checks EstablishedRecipient Sch Recipient Sender no_seed ∙ senders in
@@ -117,7 +117,7 @@ module _ (s : Scheme) (root : List ℕ) (last n room : ℕ) (wide : ltb room 255
 
   -- VFY_RES
   pub complete_sse : (seed : List ℕ) → ltb 255 (length (said_by Sse (vfy_res replied))) ≡ false
-      → turn s (before EstablishedSender Sse Sender seed) (frame (said_by Sse (vfy_res replied)) spare room)
+      → turn s (before EstablishedSender Sse Sender seed) (frame (said_by Sse (vfy_res replied)) beside room)
       ≡ stepped (before ConfirmedSse Sse Sender seed) conf.Established 0 []
   complete_sse seed short =
       let theirs = checks EstablishedSender Sse Sender Recipient seed ∙ recipients in
@@ -125,7 +125,7 @@ module _ (s : Scheme) (root : List ℕ) (last n room : ℕ) (wide : ltb room 255
       rw (wide, long, short, theirs, same)
 
   pub complete_sch : (seed : List ℕ) → ltb 255 (length (said_by Sch (vfy_res replied))) ≡ false → eqb n last ≡ false
-      → turn s (before EstablishedSender Sch Sender seed) (frame (said_by Sch (vfy_res replied)) spare room)
+      → turn s (before EstablishedSender Sch Sender seed) (frame (said_by Sch (vfy_res replied)) beside room)
       ≡ stepped (linked Sender seed) conf.Established (n + 1) []
   complete_sch seed short left =
       let theirs = checks EstablishedSender Sch Sender Recipient seed ∙ recipients in
@@ -141,11 +141,8 @@ tell_is s root last n role seed value room wide = let self = eq-eqb n n refl in 
 
 -- Records.
 
-module _ (s : Scheme) (m : Model) (room : ℕ) (enough : 255 ≤ room) (plain : List ℕ) (fit : Fit plain) where
+module _ (s : Scheme) (m : Model) (plain : List ℕ) (fit : Fit plain) where
   -- the facts that each call needs
-  roomy : ltb room 255 ≡ false
-  roomy = room_enough room enough
-
   filled : eqb (length plain) 0 ≡ false
   filled = let some = fit.some in ne_eqb (length plain) 0 (λ e. omega arith)
 
@@ -153,10 +150,12 @@ module _ (s : Scheme) (m : Model) (room : ℕ) (enough : 255 ≤ room) (plain : 
   not_long = le-ltb 200 (length plain) fit.most
 
   -- SEND
-  pub send_is : (value : List ℕ) → Confirmed Sch m → value_in m.means.live LinkKey m.link ≡ Some value → m.number < s.final
+  pub send_is : (room : ℕ) → 255 ≤ room → (value : List ℕ) → Confirmed Sch m → value_in m.means.live LinkKey m.link ≡ Some value
+      → m.number < s.final
       → let payload = s.seal_of (keyring_of m.means) m.link value (role_byte m.role) (m.number + 1) plain in
       turn s m (send plain room) ≡ stepped (record m { number = m.number + 1 }) conf.DataSent 0 (said_by Sch (enc payload))
-  send_is value c key below =
+  send_is room enough value c key below =
+      let roomy = room_enough room enough in
       let state = c.state in
       let next : leb s.final m.number ≡ false = lt-leb s.final m.number below in
       let sealed : sealed_record s m (m.number + 1) plain ≡ s.seal_of (keyring_of m.means) m.link value (role_byte m.role) (m.number + 1) plain
@@ -164,17 +163,19 @@ module _ (s : Scheme) (m : Model) (room : ℕ) (enough : 255 ≤ room) (plain : 
       rw (sealed, roomy, state, filled, not_long, next)
 
   -- ENC of the other role
-  pub hear_is : (value payload : List ℕ) (spare : Ancillary) (role : ℕ) → InLink value m → m.number < s.final → length payload ≤ 254 → Bytes16 spare.seed
-      → eqb role (role_byte m.role) ≡ false → s.open_of (keyring_of m.means) m.link value payload ≡ Some (role, m.number + 1, plain)
-      → turn s m (frame (said_by Sch (enc payload)) spare room)
+  pub hear_is : (room : ℕ) → 255 ≤ room → (beside : Ancillary) → Bytes16 beside.seed → (value payload : List ℕ) (role : ℕ)
+      → InLink value m → m.number < s.final → length payload ≤ 254 → eqb role (role_byte m.role) ≡ false
+      → s.open_of (keyring_of m.means) m.link value payload ≡ Some (role, m.number + 1, plain)
+      → turn s m (frame (said_by Sch (enc payload)) beside room)
       ≡ stepped (record m { number = m.number + 1; held = plain }) conf.DataAvailable 0 []
-  hear_is value payload spare role c below light h differs opens =
+  hear_is room enough beside h value payload role c below light differs opens =
+      let roomy = room_enough room enough in
       let state = c.confirmed.state in
       let service = c.confirmed.service in
       let none = c.none_held in
       let opened : opened_record s m payload ≡ Ok (role, m.number + 1, plain)
       = ap (λ z. good (s.open_of (keyring_of m.means) m.link z payload)) (value_is m.means.live LinkKey m.link value c.key) ∙ ap good opens in
-      let sixteen : eqb (length spare.seed) 16 ≡ true = eq-eqb (length spare.seed) 16 h.long in
+      let sixteen : eqb (length beside.seed) 16 ≡ true = eq-eqb (length beside.seed) 16 h.long in
       let short : ltb 255 (length (said_by Sch (enc payload))) ≡ false = le-ltb 255 (length (said_by Sch (enc payload))) (omega arith) in
       let other : eqb (m.number + 1) m.number ≡ false = ne_eqb (m.number + 1) m.number (λ e. omega arith) in
       let self : eqb (m.number + 1) (m.number + 1) ≡ true = eq-eqb (m.number + 1) (m.number + 1) refl in
@@ -182,8 +183,8 @@ module _ (s : Scheme) (m : Model) (room : ℕ) (enough : 255 ≤ room) (plain : 
       rw (roomy, sixteen, short, none, state, service, opened, filled, not_long, other, differs, self, low)
 
   -- RETRIEVE_DATA
-  pub data_is : Confirmed Sch m → m.held ≡ plain → turn s m (retrieve_data room) ≡ stepped (record m { held = [] }) conf.Nothing 0 plain
-  data_is c held =
+  pub data_is : (room : ℕ) → 200 ≤ room → Confirmed Sch m → m.held ≡ plain → turn s m (retrieve_data room) ≡ stepped (record m { held = [] }) conf.Nothing 0 plain
+  data_is room enough c held =
       let most = fit.most in
       let state = c.state in
       let fits : ltb room (length plain) ≡ false = le-ltb room (length plain) (omega arith) in
@@ -201,15 +202,15 @@ module _ (s : Scheme) (m : Model) (room : ℕ) (enough : 255 ≤ room) where
   part_is Sch c = let state = c.state in let service = c.service in rw (wide, state, service)
 
   -- TMN
-  pub parted_is : (v : Service) (spare : Ancillary) → Confirmed v m → Bytes16 spare.seed
-      → turn s m (frame (said_by v (tmn [])) spare room) ≡ ended m conf.Terminated [] None
-  parted_is Sse spare c h =
-      let long = eq-eqb (length spare.seed) 16 h.long in
+  pub parted_is : (v : Service) (beside : Ancillary) → Confirmed v m → Bytes16 beside.seed
+      → turn s m (frame (said_by v (tmn [])) beside room) ≡ ended m conf.Terminated [] None
+  parted_is Sse beside c h =
+      let long = eq-eqb (length beside.seed) 16 h.long in
       let state = c.state in
       let service = c.service in
       rw (wide, long, state, service)
-  parted_is Sch spare c h =
-      let long = eq-eqb (length spare.seed) 16 h.long in
+  parted_is Sch beside c h =
+      let long = eq-eqb (length beside.seed) 16 h.long in
       let state = c.state in
       let service = c.service in
       rw (wide, long, state, service)

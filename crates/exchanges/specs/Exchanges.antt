@@ -12,10 +12,10 @@ use Rattle.suite_of.specs.Kinds.{Functions, scheme_of}
 use Rattle.protocol.specs.declared.states.State.{State}
 use Rattle.protocol.specs.declared.states.State.TheVariants.{Idle, ConfirmedSse, ConfirmedSch}
 use Rattle.protocol.specs.Models.{Model, fresh}
-use Rattle.protocol.specs.Calls.{Call, GivenBytes, send, retrieve_secret, turn}
+use Rattle.protocol.specs.Calls.{Call, GivenBytes, retrieve_secret, turn}
 use Rattle.histories.specs.Histories.{History, Fresh, after, history, confirms, answers, sent, handed}
 use Rattle.histories.specs.Sessions.{encs, OnlyCopies, InSession}
-use Rattle.exchanges.specs.Duos.{End, Duo, called, last_answer, last_written, Meeting, hears, activated, Line, here, there, turned, passed, talked, said_here, said_there, parted}
+use Rattle.exchanges.specs.Duos.{End, Duo, last_answer, last_written, hears, Meeting, activated, Line, here, there, turned, sends, passed, talked, said_here, said_there, parted}
 
 -- What is asked of a kind of suite beyond its laws: under one root, check values and link keys depend on the value of the shared secret alone,
 -- whatever serials and other keys the suites have. Two peers may have made different keys before, and are to come to the same.
@@ -38,7 +38,7 @@ abbrev pub keys_for : Service → ℕ
 keys_for Sse = 1
 keys_for Sch = 2
 
--- well-formed suites, one root, no live key, enough serials; seeds of sixteen bytes, room for any reply
+-- well-formed suites, one root, no live key, enough serials; a seed of sixteen bytes
 pub record Ready (service : Service) (x : Meeting) : Type 0 where
   pub mine_formed : WellFormed x.mine
   pub theirs_formed : WellFormed x.theirs
@@ -48,9 +48,6 @@ pub record Ready (service : Service) (x : Meeting) : Type 0 where
   pub mine_left : x.mine.newest + keys_for service ≤ x.mine.last
   pub theirs_left : x.theirs.newest + keys_for service ≤ x.theirs.last
   pub seed_is : Bytes16 x.seed
-  pub answering_is : Bytes16 x.answering.seed
-  pub spare_is : Bytes16 x.spare.seed
-  pub enough : 255 ≤ x.room
 
 -- the other role
 abbrev pub opposite : Role → Role
@@ -93,7 +90,7 @@ pub record IsRun (s : Scheme) (means : Meaning) (e : End) : Type 0 where
   pub model : e.model ≡ after s (fresh means) (calls_in e.past)
   pub past : e.past ≡ history s (fresh means) (calls_in e.past)
 
--- and in this run the link session of the end's link key runs, which has this value
+-- and in this run a link session runs: that of the end's link key, which has this value
 pub record LinkRun (s : Scheme) (means : Meaning) (value : List ℕ) (e : End) : Type 0 where
   pub run : IsRun s means e
   pub since : History
@@ -107,7 +104,7 @@ pub record Joined (s : Scheme) (x : Meeting) (value : List ℕ) (d : Duo) : Type
   pub mine_copies : OnlyCopies (encs mine.since ++ encs theirs.since) mine.since
   pub their_copies : OnlyCopies (encs theirs.since ++ encs mine.since) theirs.since
 
--- both in Confirmed_SCH with confirmation 1, matched at the first number and joined, and no record was sent or handed out yet
+-- both in Confirmed_SCH with confirmation 1, matched at the first number and joined, by one value, and no record was sent or handed out yet
 pub record Linked (s : Scheme) (x : Meeting) (d : Duo) : Type 0 where
   pub value : List ℕ
   pub mine : confirms 1 (last_answer d.one.past) ≡ true
@@ -152,18 +149,18 @@ AllFit (here plain ∷ later) = Fit plain × AllFit later
 AllFit (there plain ∷ later) = Fit plain × AllFit later
 
 -- the record is confirmed sent and available, and exactly its bytes are retrieved; the sessions stay matched
-pub record Arrives (s : Scheme) (x : Meeting) (value : List ℕ) (number : ℕ) (d : Duo) (plain : List ℕ) : Type 0 where
-  pub confirmed : confirms 2 (last_answer (called s d.one (send plain x.room)).past) ≡ true
-  pub available : confirms 3 (last_answer (hears s x d.other (called s d.one (send plain x.room))).past) ≡ true
-  pub retrieved : answers (last_answer (passed s x d plain).other.past) ≡ true
-  pub exactly : last_written (passed s x d plain).other.past ≡ plain
-  pub matched : Matched value (number + 1) (passed s x d plain)
+pub record Arrives (s : Scheme) (value : List ℕ) (number : ℕ) (d : Duo) (plain : List ℕ) : Type 0 where
+  pub confirmed : confirms 2 (last_answer (sends s d.one plain).past) ≡ true
+  pub available : confirms 3 (last_answer (hears s d.other (sends s d.one plain)).past) ≡ true
+  pub retrieved : answers (last_answer (passed s d plain).other.past) ≡ true
+  pub exactly : last_written (passed s d plain).other.past ≡ plain
+  pub matched : Matched value (number + 1) (passed s d plain)
 
 -- two matched sessions hand over one record
 abbrev pub RecordPasses : Type 0
-RecordPasses = (s : Scheme) → Lawful s → (x : Meeting) → Bytes16 x.spare.seed → 255 ≤ x.room →
+RecordPasses = (s : Scheme) → Lawful s →
     (value : List ℕ) (number : ℕ) (d : Duo) → s.first ≤ number → number < s.final → Matched value number d →
-    (plain : List ℕ) → Fit plain → Arrives s x value number d plain
+    (plain : List ℕ) → Fit plain → Arrives s value number d plain
 
 -- between d and e these were sent and handed over, each to the other's user, all of them and in their order
 pub record HandedOver (d e : Duo) (talk : List Line) : Type 0 where
@@ -174,12 +171,12 @@ pub record HandedOver (d e : Duo) (talk : List Line) : Type 0 where
 
 -- two matched sessions hand over any records, as far as the numbers reach, and stay matched
 abbrev pub RecordsPass : Type 0
-RecordsPass = (s : Scheme) → Lawful s → (x : Meeting) → Bytes16 x.spare.seed → 255 ≤ x.room →
+RecordsPass = (s : Scheme) → Lawful s →
     (value : List ℕ) (number : ℕ) (d : Duo) → s.first ≤ number → Matched value number d →
     (talk : List Line) → AllFit talk → number + length talk ≤ s.final →
-    Matched value (number + length talk) (talked s x d talk) × HandedOver d (talked s x d talk) talk
+    Matched value (number + length talk) (talked s d talk) × HandedOver d (talked s d talk) talk
 
--- what two users get whose new entities are linked: all that was sent, and nothing else; the two stay matched and joined
+-- what two users get whose new entities are linked: all that was sent, and nothing else; the two stay matched and joined, by one value
 pub record AllArrives (s : Scheme) (x : Meeting) (d : Duo) (talk : List Line) : Type 0 where
   pub sent_here : sent d.one.past ≡ said_here talk
   pub handed_there : handed d.other.past ≡ said_here talk
@@ -192,7 +189,7 @@ pub record AllArrives (s : Scheme) (x : Meeting) (d : Duo) (talk : List Line) : 
 -- so it is with any talk of two entities that were ready
 abbrev pub TalkSucceeds : Type 0
 TalkSucceeds = (s : Scheme) → Lawful s → OfRootAndValue s → (x : Meeting) → Ready Sch x →
-    (talk : List Line) → AllFit talk → s.first + length talk ≤ s.final → AllArrives s x (talked s x (activated s Sch x) talk) talk
+    (talk : List Line) → AllFit talk → s.first + length talk ≤ s.final → AllArrives s x (talked s (activated s Sch x) talk) talk
 
 -- The end.
 
@@ -205,28 +202,28 @@ pub record Parted (d : Duo) : Type 0 where
 
 -- two entities confirmed in one service part
 abbrev pub PartingSucceeds : Type 0
-PartingSucceeds = (s : Scheme) (x : Meeting) → Bytes16 x.spare.seed → 255 ≤ x.room →
-    (service : Service) (d : Duo) → Confirmed service d.one.model → Confirmed service d.other.model → Parted (parted s x d)
+PartingSucceeds = (s : Scheme) (service : Service) (d : Duo) → Confirmed service d.one.model → Confirmed service d.other.model →
+    Parted (parted s d)
 
 -- neither suite has a live key
 abbrev pub NoneLeft : Duo → Type 0
 NoneLeft d = (d.one.model.means.live ≡ []) × (d.other.model.means.live ≡ [])
 
 -- whichever of the two terminates, they part, and no key is left
-pub record EndsWell (s : Scheme) (x : Meeting) (d : Duo) : Type 0 where
-  pub mine : Parted (parted s x d)
-  pub mine_gone : NoneLeft (parted s x d)
-  pub theirs : Parted (parted s x (turned d))
-  pub theirs_gone : NoneLeft (parted s x (turned d))
+pub record EndsWell (s : Scheme) (d : Duo) : Type 0 where
+  pub mine : Parted (parted s d)
+  pub mine_gone : NoneLeft (parted s d)
+  pub theirs : Parted (parted s (turned d))
+  pub theirs_gone : NoneLeft (parted s (turned d))
 
 -- a link after any talk
 abbrev pub LinkEnds : Type 0
 LinkEnds = (s : Scheme) → Lawful s → OfRootAndValue s → (x : Meeting) → Ready Sch x →
-    (talk : List Line) → AllFit talk → s.first + length talk ≤ s.final → EndsWell s x (talked s x (activated s Sch x) talk)
+    (talk : List Line) → AllFit talk → s.first + length talk ≤ s.final → EndsWell s (talked s (activated s Sch x) talk)
 
 -- and a shared secret
 abbrev pub SecretEnds : Type 0
-SecretEnds = (s : Scheme) → Lawful s → OfRootAndValue s → (x : Meeting) → Ready Sse x → EndsWell s x (activated s Sse x)
+SecretEnds = (s : Scheme) → Lawful s → OfRootAndValue s → (x : Meeting) → Ready Sse x → EndsWell s (activated s Sse x)
 
 -- there are entities ready for a link
 abbrev pub SomeReady : Type 0
