@@ -1,3 +1,5 @@
+ghost use Rattle.std.specs.Prelude.{◌≤◌};
+
 use frame::Service::{Sch, Sse};
 use frame::{
     Body, CodecFault, Detail, FaultCode, MAX_FRAME, Message, MessageKind, ReadError, Refusal,
@@ -80,9 +82,11 @@ fn lengths(rt: HostRuntime) {
 }
 
 // The first three bytes and the length of what is written.
-fn written(service: Service, body: Body<'_>, room: usize) -> Result<([u8; 3], usize), Refusal> {
+fn written(service: Service, body: Body<'_>, room: usize) -> Result<([u8; 3], usize), Refusal>
+    requires { room ≤ 300 }
+{
     let mut out = [0xEE; 300];
-    let length = frame::write(&Message { service, body }, &mut out[..room.min(300)])?;
+    let length = frame::write(&Message { service, body }, &mut out[..room])?;
     Ok(([out[0], out[1], out[2]], length))
 }
 
