@@ -1,6 +1,6 @@
 // An entity whose calls are compared with what they must answer and write.
 use activation::{Agreed, Offered};
-use entity::Entity;
+use entity::{Ancillary, Entity};
 use frame::Service;
 use protocol::{Confirmation, Outcome, Refusal};
 use std::process::Abort;
@@ -23,7 +23,8 @@ pub type Answer = Result<Outcome, Refusal>;
 
 // A buffer that was full of nines has these bytes in front, and past them is as it was.
 fn holds(out: &[u8; 255], bytes: &[u8]) -> bool {
-    out.starts_with(bytes) && out.ends_with(&[9; 255][bytes.len().min(255)..])
+    out.strip_prefix(bytes)
+        .is_some_and(|rest| rest.iter().all(|b| *b == 9))
 }
 
 // What a call confirms, and how many bytes it writes.
@@ -51,7 +52,7 @@ pub fn wrote(
 }
 
 #[derive(Drop)]
-pub struct End<'a, R, S> {
+pub struct End<'a, R, S: Suite> {
     rt: &'a R,
     entity: &'a mut Entity<S>,
     seed: [u8; 16],
@@ -74,7 +75,8 @@ impl<'a, R: Abort, S: Suite> End<'a, R, S> {
 
     pub fn hears(&mut self, frame: &[u8], wanted: Result<Confirmation, Refusal>, reply: &[u8]) {
         let mut out = [9; 255];
-        let answer = self.entity.frame(frame, &self.seed, &mut out);
+        let beside = Ancillary { seed: &self.seed };
+        let answer = self.entity.frame(frame, beside, &mut out);
         wrote(self.rt, answer, &out, wanted, reply);
     }
 

@@ -1,25 +1,29 @@
 // A whole exchange over two keyed suites: what one end answers is handed to the other as it is.
+ghost use Rattle.std.specs.Prelude.{◌≤◌, IfOk};
+
 use super::ends::*;
-use entity::Entity;
+use entity::{Ancillary, Entity};
 use frame::Service;
 use keyed_suite::KeyedSuite;
 use protocol::{Confirmation, Destroyed, State};
 use std::process::Abort;
 
-// A frame on its way.
+// A frame on its way. It has at most 255 bytes, so its length is a byte.
 #[derive(Drop)]
 struct Line {
     bytes: [u8; 255],
-    length: usize,
+    length: u8,
 }
 
 impl Line {
     // What a call answered, with the frame that it wrote.
-    fn takes(&mut self, rt: &impl Abort, answer: Answer, wanted: Confirmation) -> Destroyed {
+    fn takes(&mut self, rt: &impl Abort, answer: Answer, wanted: Confirmation) -> Destroyed
+        requires { IfOk answer (λ o. o.length ≤ 255) }
+    {
         match answer {
             Ok(outcome) => {
                 assert_eq!(rt; outcome.confirmation, wanted);
-                self.length = outcome.length.min(255);
+                self.length = outcome.length as u8;
                 outcome.destroyed
             }
             Err(_) => panic!(rt; "refused"),
@@ -33,7 +37,8 @@ impl Line {
         wanted: Confirmation,
     ) -> Destroyed {
         let sent = self.bytes;
-        let answer = entity.frame(&sent[..self.length.min(255)], &[2; 16], &mut self.bytes);
+        let beside = Ancillary { seed: &[2; 16] };
+        let answer = entity.frame(&sent[..usize::from(self.length)], beside, &mut self.bytes);
         self.takes(rt, answer, wanted)
     }
 }

@@ -1,7 +1,7 @@
 // The last number of a session, and a shared secret.
 use super::ends::*;
 use bench_suite::Bench;
-use entity::Slip;
+use entity::{Ancillary, Slip};
 use frame::Service;
 use protocol::{Confirmation, Refusal};
 
@@ -9,14 +9,15 @@ use protocol::{Confirmation, Refusal};
 #[test]
 fn last_number(rt: HostRuntime) {
     let mut one = entity(&rt, Bench::new(ROOT));
+    let beside = Ancillary { seed: &[0; 16] };
     let mut reply = [0; 255];
     let _ = one.invoke(Service::Sch, 0xF0, &[1; 16], &mut reply);
     let _ = one.frame(
         &[0x11, 2, 2, 2, 2, 2, 2, 2, 2, 2, 2, 2, 2, 2, 2, 2, 2],
-        &[0; 16],
+        beside,
         &mut reply,
     );
-    let _ = one.frame(&[0x13, 2, 3, 3, 3], &[0; 16], &mut reply);
+    let _ = one.frame(&[0x13, 2, 3, 3, 3], beside, &mut reply);
     for _ in 0..65_534 {
         let _ = one.send(b"A", &mut reply);
     }
@@ -35,14 +36,15 @@ fn last_number(rt: HostRuntime) {
 #[test]
 fn secret(rt: HostRuntime) {
     let mut one = entity(&rt, Bench::new(ROOT));
+    let beside = Ancillary { seed: &[0; 16] };
     let mut reply = [0; 255];
     let _ = one.invoke(Service::Sse, 0xF0, &[1; 16], &mut reply);
     let _ = one.frame(
         &[0x01, 2, 2, 2, 2, 2, 2, 2, 2, 2, 2, 2, 2, 2, 2, 2, 2],
-        &[0; 16],
+        beside,
         &mut reply,
     );
-    let _ = one.frame(&[0x03, 2, 3, 3, 3], &[0; 16], &mut reply);
+    let _ = one.frame(&[0x03, 2, 3, 3, 3], beside, &mut reply);
     let slip = Slip::take_out();
     let mut secret = [9; 17];
     let answer = one.retrieve_secret(&slip, &mut secret);

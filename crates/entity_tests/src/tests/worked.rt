@@ -1,7 +1,7 @@
 // Frames over the bench suite, byte for byte.
 use super::ends::*;
 use bench_suite::Bench;
-use entity::Entity;
+use entity::{Ancillary, Entity};
 use frame::Service;
 use protocol::{Confirmation, Destroyed, Refusal, State};
 use quota::Quota;
@@ -103,7 +103,7 @@ fn one_key(rt: HostRuntime) {
     let mut one = entity(&rt, Quota::new(Bench::new(ROOT), 1));
     End::of(&rt, &mut one, 2).hears(&OFFER, Ok(Confirmation::Nothing), &ANSWER);
     let mut out = [9; 255];
-    let answer = one.frame(&ASKED, &[2; 16], &mut out);
+    let answer = one.frame(&ASKED, Ancillary { seed: &[2; 16] }, &mut out);
     let destroyed = answer.map(|outcome| outcome.destroyed);
     assert_eq!(rt; destroyed, Ok(Destroyed { link: 0, secret: 1 }));
     assert!(rt; out.starts_with(&[0x1F, 0x53, 0x33, 0, 9]));
