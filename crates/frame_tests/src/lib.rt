@@ -1,4 +1,4 @@
-// Frames by example: every message, every fault and both limits of length, read, written and read again.
+// Frames by example: each kind of message, written and read again, and each fault.
 #![tactic(auto)]
 
 #[cfg(test)]

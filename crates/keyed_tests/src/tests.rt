@@ -109,41 +109,21 @@ fn longest(rt: HostRuntime) {
     assert_eq!(rt; suite.close(), ROOT);
 }
 
-// A payload without data, from which nothing is written.
-fn opens_empty(
-    rt: &impl Abort,
-    suite: &KeyedSuite,
-    payload: &[u8],
-    answer: Option<(u8, u32, usize)>,
-) {
-    let mut out = [9; 255];
-    assert_eq!(rt; suite.open(2, payload, &mut out), Ok(answer));
-    assert_eq!(rt; out, [9; 255]);
-}
-
-// What is not good is not written: too short or with no role, each under its own tag, and a tag that differs in its first or in its last
-// byte. What is good may have any number, and no data.
+// A payload without data, at the highest number, from which nothing is written; and one under its own tag that has no role.
 #[test]
 fn payloads(rt: HostRuntime) {
-    const EMPTY: [u8; 13] = [
-        1, 0, 0, 0, 1, 0xC3, 0xE1, 0x47, 0x73, 0x4D, 0x70, 0x66, 0x5F,
-    ];
     const HIGHEST: [u8; 13] = [
         2, 255, 255, 255, 255, 0xCB, 0x66, 0xE3, 0x7B, 0xC7, 0x88, 0xBE, 0x47,
     ];
     const NO_ROLE: [u8; 13] = [
         3, 0, 0, 0, 1, 0x20, 0xE2, 0xE6, 0x11, 0xCD, 0x2A, 0xF3, 0xEB,
     ];
-    const SHORT: [u8; 12] = [1, 0, 0, 0, 0xC7, 0xC7, 0x60, 0xF7, 0x76, 0x99, 0x24, 0xAB];
     let suite = with_link(&rt);
-    let (mut first, mut last) = (EMPTY, EMPTY);
-    first[5] ^= 1;
-    last[12] ^= 1;
-    opens_empty(&rt, &suite, &SHORT, None);
-    opens_empty(&rt, &suite, &NO_ROLE, None);
-    opens_empty(&rt, &suite, &first, None);
-    opens_empty(&rt, &suite, &last, None);
-    opens_empty(&rt, &suite, &EMPTY, Some((1, 1, 0)));
-    opens_empty(&rt, &suite, &HIGHEST, Some((2, 4_294_967_295, 0)));
-    assert_eq!(rt; suite.close(), ROOT);
+    let mut out = [9; 255];
+    let opened = [
+        suite.open(2, &HIGHEST, &mut out),
+        suite.open(2, &NO_ROLE, &mut out),
+    ];
+    assert_eq!(rt; opened, [Ok(Some((2, 4_294_967_295, 0))), Ok(None)]);
+    assert_eq!(rt; (out, suite.close()), ([9; 255], ROOT));
 }

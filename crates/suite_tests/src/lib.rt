@@ -1,4 +1,4 @@
-// Suites and layers on worked values, and at the edges of every argument.
+// Suites and layers on worked values.
 #![tactic(auto)]
 
 #[cfg(test)]

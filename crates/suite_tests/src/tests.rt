@@ -1,4 +1,3 @@
 mod bench;
-mod calls;
 mod layers;
 mod numbers;
