@@ -1,29 +1,30 @@
 -- What a suite answers that is asked within its limits, with a key that is live.
-use Rattle.std.proofs.Common.{◌≡◌, ℕ, ◌≤◌, Bool, true, false, cond, not, ◌||◌, eqb, ltb, List, [], length, is_some, Some, None, Ok, Err, Option, Result, refl, sym, ap, ◌∙◌, arith}
+use Rattle.std.proofs.Common.{◌≡◌, ℕ, ◌≤◌, true, false, cond, not, ◌||◌, eqb, ltb, List, length, is_some, Some, None, Ok, Err, Option, Result, refl, ap, ◌∙◌}
 use Rattle.std.proofs.lemmas.Bool.{eq-eqb, le-ltb, or_from, not_from_true, cond-false}
 use Rattle.suite.specs.declared.types.Role.{Role}
 use Rattle.suite.specs.declared.types.Role.TheVariants.{Sender, Recipient}
 use Rattle.suite.specs.declared.types.KeyKind.{KeyKind}
 use Rattle.suite.specs.declared.types.KeyKind.TheVariants.{SharedSecret, LinkKey}
 use Rattle.suite.specs.declared.types.Denial.{Denial}
-use Rattle.suite.specs.declared.types.Denial.TheVariants.{BadOffer, Spent, Unfit}
+use Rattle.suite.specs.declared.types.Denial.TheVariants.{BadOffer, Spent}
 use Rattle.suite.specs.Numbers.{role_byte}
-use Rattle.suite.specs.Meanings.{Key, Meaning, Bytes16, Formed, keyring_of, value_in, value_of}
+use Rattle.suite.specs.Meanings.{Meaning, Bytes16, Formed, keyring_of, value_in, value_of}
 use Rattle.suite.specs.Schemes.{Scheme, ok_role}
 use Rattle.suite.specs.Calls.{wrong_seed, no_room, spent, known, offered, agreed, derived, checked, revealed, sealed, opened}
 use Rattle.suite.proofs.KeyLaws.{found}
 
+-- a role's byte is a role's
 pub role_ok : (r : Role) → ok_role (role_byte r) ≡ true
 role_ok Sender = refl
 role_ok Recipient = refl
 
-pub role_fits : (r : Role) → not (ok_role (role_byte r)) ≡ false
+role_fits : (r : Role) → not (ok_role (role_byte r)) ≡ false
 role_fits r = not_from_true (ok_role (role_byte r)) (role_ok r)
 
-pub room_enough : (room : ℕ) → 255 ≤ room → no_room room ≡ false
+room_enough : (room : ℕ) → 255 ≤ room → no_room room ≡ false
 room_enough room h = le-ltb room 255 h
 
-pub seed_fits : (seed : List ℕ) → length seed ≡ 16 → wrong_seed seed ≡ false
+seed_fits : (seed : List ℕ) → length seed ≡ 16 → wrong_seed seed ≡ false
 seed_fits seed e = not_from_true (eqb (length seed) 16) (eq-eqb (length seed) 16 e)
 
 some_of : (o : Option (List ℕ)) → is_some o ≡ true → (v : List ℕ) × (o ≡ Some v)

@@ -1,10 +1,10 @@
 -- What it says of a byte that a role is read from it.
-use Rattle.std.proofs.Common.{◌≡◌, ℕ, true, Ok, refl, subst, arith}
+use Rattle.std.proofs.Common.{◌≡◌, ℕ, true, Ok, subst, arith}
 use Rattle.std.proofs.lemmas.Grind.{common_steps}
 use Rattle.suite.specs.declared.types.Role.{Role}
-use Rattle.suite.specs.declared.types.Role.TheVariants.{Sender, Recipient}
 use Rattle.suite.specs.Numbers.{role_byte, role_of}
 use Rattle.suite.specs.Schemes.{ok_role}
+use Rattle.suite.proofs.CallLaws as calls
 
 -- it is that role's byte
 pub role_back : (b : ℕ) (r : Role) → role_of b ≡ Ok r → role_byte r ≡ b
@@ -12,8 +12,4 @@ role_back b r e = grind (arith, common_steps)
 
 -- so it is a role's
 pub role_ok : (b : ℕ) (r : Role) → role_of b ≡ Ok r → ok_role b ≡ true
-role_ok b r e = let P : ℕ → Type 0 = λ z. ok_role z ≡ true in subst P (role_back b r e) (own r)
-  where
-    own : (r : Role) → ok_role (role_byte r) ≡ true
-    own Sender = refl
-    own Recipient = refl
+role_ok b r e = let P : ℕ → Type 0 = λ z. ok_role z ≡ true in subst P (role_back b r e) (calls.role_ok r)
