@@ -1,23 +1,24 @@
 -- What an entity asks of its suite is never denied as unfit or unknown.
-use Rattle.std.proofs.Common.{◌≡◌, ◌≢◌, ℕ, ◌+◌, ◌≤◌, Bool, true, false, cond, not, ◌||◌, eqb, ltb, List, [], ◌∷◌, length, Some, Ok, Err, Option, Result, sym, refl, ap, subst, arith}
-use Rattle.std.proofs.lemmas.Bool.{ne_eqb, eq-eqb, le-ltb, or_from, or_left, or_right, not_from_true}
+use Rattle.std.proofs.Common.{◌≡◌, ◌≢◌, ℕ, ◌+◌, ◌≤◌, true, false, not, ◌||◌, eqb, List, [], ◌∷◌, length, Ok, Err, Result, sym, refl, ap, subst, arith}
+use Rattle.std.proofs.lemmas.Bool.{ne_eqb, eq-eqb, or_left, or_right}
 use Rattle.std.specs.Prelude.{is_some}
 use Rattle.frame.specs.declared.types.Service.{Service}
 use Rattle.suite.specs.declared.types.Role.{Role}
 use Rattle.suite.specs.declared.types.KeyKind.TheVariants.{SharedSecret, LinkKey}
 use Rattle.suite.specs.declared.types.Denial.{Denial}
-use Rattle.suite.specs.declared.types.Denial.TheVariants.{BadOffer, Spent, Unfit}
+use Rattle.suite.specs.declared.types.Denial.TheVariants.{BadOffer, Spent}
 use Rattle.suite.specs.Numbers.{role_byte}
 use Rattle.suite.specs.Meanings.{Meaning, keyring_of, value_in, is_live}
-use Rattle.suite.specs.Schemes.{Scheme, Lawful, ok_role}
-use Rattle.suite.specs.Calls.{wrong_seed, no_room, spent, adding, known, offered, agreed, destroy_answer}
+use Rattle.suite.specs.Schemes.{Scheme, Lawful}
+use Rattle.suite.specs.Calls.{spent, adding, offered, agreed, destroy_answer}
+use Rattle.suite.proofs.CallLaws.{offered_is, agreed_is, derived_is, checked_is, revealed_is, sealed_is, opened_is}
 use Rattle.protocol.specs.declared.states.State.{State}
 use Rattle.protocol.specs.declared.states.State.TheVariants.{Idle, Select, EstablishedSender, EstablishedRecipient, ConfirmedSse, ConfirmedSch}
 use Rattle.protocol.specs.Numbers.{state_mark}
 use Rattle.protocol.specs.Models.{Model, has_secret, has_link, without_key}
 use Rattle.promises.specs.Promises.{WellAsked, ServesAsSecret, ServesAsLink, AsksWell}
 use Rattle.promises.proofs.Cases.{both, clash}
-use Rattle.promises.proofs.Forms.{role_ok, Base, One, Two, none_live, one_live, two_live, secret_key, link_key, none_formed, one_formed, two_formed, secret_there, link_there}
+use Rattle.promises.proofs.Forms.{Base, One, Two, none_live, one_live, two_live, secret_key, link_key, none_formed, one_formed, two_formed, secret_there, link_there}
 use Rattle.promises.proofs.Sounds.{unlinked, in_link, SecretOnly, Sound, at_idle, at_select, at_secret, at_sch}
 
 -- Answers that are no such denial.
@@ -31,49 +32,33 @@ bad_offer = record { fit = λ e. (cc); known = λ e. (cc) }
 is_spent : {A : Type 0} → WellAsked {A = A} (Err Spent)
 is_spent = record { fit = λ e. (cc); known = λ e. (cc) }
 
--- where the test of unfitness fails
-past : {A : Type 0} (b : Bool) (r : Result A Denial) → b ≡ false → WellAsked r → WellAsked (cond b (Err Unfit) r)
-past b r f g = both b WellAsked (λ t. clash b f t) (λ _. g)
-
--- with the value of the key
-with_value : {A : Type 0} (f : List ℕ → Result A Denial) (o : Option (List ℕ)) (v : List ℕ) → o ≡ Some v → WellAsked (f v) → WellAsked (known f o)
-with_value f o v e g = subst (λ z. WellAsked (known f z)) (sym e) g
-
-room_enough : (room : ℕ) → 255 ≤ room → no_room room ≡ false
-room_enough room h = le-ltb room 255 h
-
-seed_fits : (seed : List ℕ) → length seed ≡ 16 → wrong_seed seed ≡ false
-seed_fits seed e = not_from_true (eqb (length seed) 16) (eq-eqb (length seed) 16 e)
-
-role_fits : (r : Role) → not (ok_role (role_byte r)) ≡ false
-role_fits r = not_from_true (ok_role (role_byte r)) (role_ok r)
+-- an answer that equals one which is no such denial
+same_as : {A : Type 0} {a b : Result A Denial} → a ≡ b → WellAsked b → WellAsked a
+same_as e g = subst WellAsked (sym e) g
 
 -- The suite's calls.
 
 offer_asked : (s : Scheme) (m : Meaning) (seed : List ℕ) (room : ℕ) → length seed ≡ 16 → 255 ≤ room → WellAsked (offered s m seed room)
-offer_asked s m seed room e h = past (wrong_seed seed || no_room room) _ (or_from (wrong_seed seed) (no_room room) (seed_fits seed e) (room_enough room h)) (answered _)
+offer_asked s m seed room e h = same_as (offered_is s m seed room e h) (answered _)
 
 agreement_asked : (s : Scheme) (m : Meaning) (seed offer : List ℕ) (role : Role) → length seed ≡ 16 → WellAsked (agreed s m seed offer (role_byte role))
 agreement_asked s m seed offer role e =
-    past (wrong_seed seed || not (ok_role (role_byte role))) _ (or_from (wrong_seed seed) (not (ok_role (role_byte role))) (seed_fits seed e) (role_fits role))
+    same_as (agreed_is s m seed offer role e)
     (both (not (s.fit_of (keyring_of m) offer)) WellAsked (λ _. bad_offer) (λ _. both (spent m) WellAsked (λ _. is_spent) (λ _. answered _)))
 
-secret_serves : (s : Scheme) (m : Meaning) (key : ℕ) (v : List ℕ) → value_in m.live SharedSecret key ≡ Some v → ServesAsSecret s m key
-secret_serves s m key v e = record {
-  check = λ role room h. past (not (ok_role (role_byte role)) || no_room room) _ (or_from (not (ok_role (role_byte role))) (no_room room) (role_fits role) (room_enough room h)) (with_value _ _ v e (answered _));
-  link = with_value _ _ v e (both (spent m) WellAsked (λ _. is_spent) (λ _. answered _));
-  value = λ room h. past (ltb room 16) _ (le-ltb room 16 h) (with_value _ _ v e (answered _));
+secret_serves : (s : Scheme) (m : Meaning) (key : ℕ) → is_some (value_in m.live SharedSecret key) ≡ true → ServesAsSecret s m key
+secret_serves s m key live = record {
+  check = λ role room h. same_as (checked_is s m key role room h live) (answered _);
+  link = same_as (derived_is s m key live) (both (spent m) WellAsked (λ _. is_spent) (λ _. answered _));
+  value = λ room h. same_as (revealed_is m key room h live) (answered _);
 }
 
-link_serves : (s : Scheme) → Lawful s → (m : Meaning) (key : ℕ) (w : List ℕ) → value_in m.live LinkKey key ≡ Some w → ServesAsLink s m key
-link_serves s law m key w e = record {
+link_serves : (s : Scheme) → Lawful s → (m : Meaning) (key : ℕ) → is_some (value_in m.live LinkKey key) ≡ true → ServesAsLink s m key
+link_serves s law m key live = record {
   seal = λ role n plain room long top h.
       let final = law.final_bound in
-      let low : n ≤ 16777215 = omega arith in
-      let short = or_from (not (ok_role (role_byte role))) (ltb 200 (length plain)) (role_fits role) (le-ltb 200 (length plain) long) in
-      let numbered = or_from (not (ok_role (role_byte role)) || ltb 200 (length plain)) (ltb 16777215 n) short (le-ltb 16777215 n low) in
-      past _ _ (or_from (not (ok_role (role_byte role)) || ltb 200 (length plain) || ltb 16777215 n) (no_room room) numbered (room_enough room h)) (with_value _ _ w e (answered _));
-  unseal = λ payload room short h. past (ltb 254 (length payload) || no_room room) _ (or_from (ltb 254 (length payload)) (no_room room) (le-ltb 254 (length payload) short) (room_enough room h)) (with_value _ _ w e (answered _));
+      same_as (sealed_is s m key role n plain room long (omega arith) h live) (answered _);
+  unseal = λ payload room short h. same_as (opened_is s m key payload room short h live) (answered _);
 }
 
 destroy_asked : (m : Meaning) (key : ℕ) → is_live m.live key ≡ true → WellAsked (destroy_answer m key)
@@ -129,7 +114,7 @@ module _ (s : Scheme) (law : Lawful s) where
     offer = λ seed room e h. offer_asked s (none_live root last n) seed room e h;
     agreement = λ seed offer role e. agreement_asked s (none_live root last n) seed offer role e;
     kept_seed = kept;
-    new_secret = λ _ value. secret_serves s (adding (none_live root last n) SharedSecret value) (n + 1) value (secret_there (n + 1) value []);
+    new_secret = λ _ value. secret_serves s (adding (none_live root last n) SharedSecret value) (n + 1) (ap is_some (secret_there (n + 1) value []));
     secret = λ some. clash _ none some;
     link = λ e. absurd (unlinked' e);
     link_goes = no_key;
@@ -144,7 +129,7 @@ module _ (s : Scheme) (law : Lawful s) where
     agreement = λ seed offer role e. agreement_asked s (one_live root last n v) seed offer role e;
     kept_seed = λ e. absurd (above_select k e);
     new_secret = λ none value. absurd (with_secret _ k none);
-    secret = λ some. secret_serves s (one_live root last n v) n v (secret_there n v []);
+    secret = λ some. secret_serves s (one_live root last n v) n (ap is_some (secret_there n v []));
     link = λ e. absurd (below_link k e);
     link_goes = no_key;
     secret_goes = λ ne. destroy_asked (one_live root last n v) n (alone_live n v);
@@ -158,8 +143,8 @@ module _ (s : Scheme) (law : Lawful s) where
     agreement = λ seed offer role e. agreement_asked s (two_live root last n v w) seed offer role e;
     kept_seed = λ e. (cc);
     new_secret = λ none value. (cc);
-    secret = λ some. secret_serves s (two_live root last n v w) n v (secret_there n v (link_key (n + 1) w ∷ []));
-    link = λ e. link_serves s law (two_live root last n v w) (n + 1) w (link_there n v w);
+    secret = λ some. secret_serves s (two_live root last n v w) n (ap is_some (secret_there n v (link_key (n + 1) w ∷ [])));
+    link = λ e. link_serves s law (two_live root last n v w) (n + 1) (ap is_some (link_there n v w));
     link_goes = λ ne. destroy_asked (two_live root last n v w) (n + 1) (link_live n v w);
     secret_goes = λ ne. destroy_asked (without_key (two_live root last n v w) (n + 1)) n (secret_stays root last n v w);
   }

@@ -1,10 +1,7 @@
 -- Well-formed suites with no key, with a shared secret, and with a link key too.
 use Rattle.std.proofs.Common.{◌≡◌, ℕ, ◌+◌, ◌^◌, ◌<◌, ◌≤◌, Bool, true, false, cond, eqb, List, [], ◌∷◌, Some, Ok, Err, Result, refl, arith}
 use Rattle.std.proofs.lemmas.Bool.{ne_eqb, eq-eqb, eqb-false, or_from}
-use Rattle.suite.specs.declared.types.Role.{Role}
-use Rattle.suite.specs.declared.types.Role.TheVariants.{Sender, Recipient}
 use Rattle.suite.specs.declared.types.KeyKind.TheVariants.{SharedSecret, LinkKey}
-use Rattle.suite.specs.Numbers.{role_byte}
 use Rattle.suite.specs.Meanings.{Key, Meaning, Bytes, Bytes16, WellFormed, keyring_of, value_in}
 use Rattle.suite.specs.Schemes.{Scheme, Lawful, ok_role}
 use Rattle.suite.specs.Calls.{spent}
@@ -79,10 +76,6 @@ two_formed root last n v w o =
 pub passes : {A E : Type 0} (b : Bool) (e : E) (x : Result A E) (v : A) → cond b (Err e) x ≡ Ok v → (b ≡ false) × (x ≡ Ok v)
 passes true e x v q = absurd (cc)
 passes false e x v q = (refl, q)
-
-pub role_ok : (r : Role) → ok_role (role_byte r) ≡ true
-role_ok Sender = refl
-role_ok Recipient = refl
 
 more_left : (n last : ℕ) → n ≤ last → eqb n last ≡ false → n + 1 ≤ last
 more_left n last h e = let d : n ≡ last → ⊥ = eqb-false n last e in omega arith

@@ -11,6 +11,7 @@ use Rattle.suite.specs.declared.types.Role.TheVariants.{Sender, Recipient}
 use Rattle.suite.specs.declared.types.KeyKind.TheVariants.{SharedSecret, LinkKey}
 use Rattle.suite.specs.Numbers.{role_byte}
 use Rattle.suite.specs.Meanings.{Bytes, Bytes16, keyring_of, value_in, value_of}
+use Rattle.suite.proofs.CallLaws.{role_ok}
 use Rattle.suite.proofs.KeyLaws.{value_is}
 use Rattle.suite.specs.Schemes.{Scheme, Lawful}
 use Rattle.suite.specs.Calls.{spent}
@@ -22,13 +23,13 @@ use Rattle.protocol.specs.declared.faults.SuiteFault.{SuiteFault}
 use Rattle.protocol.specs.declared.faults.SuiteFault.TheVariants.{BadOffer, NoKey}
 use Rattle.protocol.specs.declared.faults.Cause.{Cause}
 use Rattle.protocol.specs.declared.faults.Cause.TheVariants.{Suite}
-use Rattle.protocol.specs.Models.{Model, Ancillary, link_value, fresh}
+use Rattle.protocol.specs.Models.{Model, Ancillary, link_value}
 use Rattle.protocol.specs.Steps.{Step, fails, unless, moved, agreement, derivation, verified, good, opened_record, is_empty, record_length, sequenced, same_service, in_session, on_act_req, on_act_res, on_vfy_req, on_vfy_res, on_enc, entered, linked, confirmed, check_value, by_state, said_by}
 use Rattle.protocol.specs.Calls.{Call, frame, settle, blocked, admitted, taken}
 use Rattle.histories.specs.Histories.{listed}
 use Rattle.histories.specs.Sessions.{In, CopyIn, CopyOf}
 use Rattle.promises.proofs.Cases.{both, clash}
-use Rattle.promises.proofs.Forms.{Base, One, Two, none_live, one_live, two_live, passes, role_ok, made_one, secret_there, made_two}
+use Rattle.promises.proofs.Forms.{Base, One, Two, none_live, one_live, two_live, passes, made_one, secret_there, made_two}
 use Rattle.promises.proofs.Ledgers.{takes, other}
 use Rattle.promises.proofs.Payloads.{read_is, fields_bytes}
 use Rattle.promises.proofs.Sounds.{unlinked, in_link, SecretOnly, Sound, at_idle, at_select, at_secret, at_sch, Did, outside, inside, agrees, links}

@@ -4,6 +4,7 @@ use Rattle.std.specs.List.{AllByRecursion}
 use Rattle.suite.specs.declared.types.KeyKind.TheVariants.{LinkKey}
 use Rattle.suite.specs.Numbers.{role_byte}
 use Rattle.suite.specs.Meanings.{Keyring, Formed, keyring_of, Bytes16, value_in}
+use Rattle.suite.proofs.CallLaws.{role_ok}
 use Rattle.suite.proofs.KeyLaws.{value_formed}
 use Rattle.suite.specs.Schemes.{Scheme, Lawful, ok_role}
 use Rattle.suite.specs.Calls.{no_room}
@@ -14,7 +15,6 @@ use Rattle.histories.specs.Histories.{Entry, History, Fresh, after, entered, des
 use Rattle.histories.specs.Sessions.{InSession, EndedSession, ends, stays, LinkSession, keyring_at, next_entry, sealed_by, encs, enc_in, numbers, OnlyCopies}
 use Rattle.promises.specs.Promises.{KindsOpenAlike, AlikeBothWays, Follows, Ordered}
 use Rattle.promises.proofs.Cases.{both, clash}
-use Rattle.promises.proofs.Forms.{role_ok}
 use Rattle.promises.proofs.Ledgers.{End, Ledger}
 use Rattle.promises.proofs.Duos.{in_order, no_gap}
 use Rattle.promises.proofs.Sounds.{in_sch, end_of}
