@@ -9,7 +9,7 @@ use Rattle.suite.specs.Calls.{no_room}
 use Rattle.protocol.specs.declared.states.State.{State}
 use Rattle.protocol.specs.declared.states.State.TheVariants.{Idle, Select, EstablishedSender, EstablishedRecipient, ConfirmedSse, ConfirmedSch}
 use Rattle.protocol.specs.Numbers.{state_mark}
-use Rattle.protocol.specs.Models.{Model}
+use Rattle.protocol.specs.Models.{Model, idle}
 use Rattle.protocol.specs.Calls.{Call, GivenBytes, invoke, send, retrieve_data, retrieve_secret, terminate, frame, release, Turn, turn, in_state}
 use Rattle.histories.specs.Histories.{Entry, History, Fresh, after, history, entered, Runs, confirms, sent, sent_in, handed, handing}
 use Rattle.histories.specs.Records.{link_in, Over, was_sent, was_handed, charged_in, charges, those}
@@ -20,7 +20,7 @@ use Rattle.promises.proofs.Cases.{both, clash}
 use Rattle.promises.proofs.Books.{within_less}
 use Rattle.promises.proofs.Forms.{link_there}
 use Rattle.promises.proofs.Sounds.{Sound, at_idle, at_select, at_secret, at_sch, in_sch}
-use Rattle.promises.proofs.Turns.{not_idle, not_linked}
+use Rattle.promises.proofs.Turns.{not_idle, not_linked, secret_gone, both_gone}
 use Rattle.promises.proofs.Runs.{Fits, Holds, holds, orderly}
 use Rattle.promises.proofs.Tellings.{Orderly, read_off, none_read, runs_told, run_above, over_told, Quiet, no_others}
 use Rattle.promises.proofs.Askings.{asks_well}
@@ -102,11 +102,19 @@ confirmed_at ConfirmedSch e = refl
 linked_at : (m : Model) → m.state ≡ ConfirmedSch → in_sch m ≡ true
 linked_at m e = ap (λ z. in_state (record m { state = z }) ConfirmedSch) e
 
+-- in Idle no key is live
 idle_empty : (s : Scheme) {m : Model} → Sound s m → m.state ≡ Idle → m.means.live ≡ []
 idle_empty s (at_idle b) e = refl
 idle_empty s (at_select b h) e = refl
 idle_empty s (at_secret state k one) e = clash _ (not_idle k) (ap (λ z. eqb (state_mark z) 0) e)
 idle_empty s (at_sch h lo hi) e = absurd (cc)
+
+-- nor after it is put away
+none_left : (s : Scheme) {m : Model} → Sound s m → (idle m).means.live ≡ []
+none_left s (at_idle b) = refl
+none_left s (at_select b h) = refl
+none_left s (at_secret {root} {last} {n} {v} state k one) = ap (λ z. z.live) (secret_gone root last n v one.pos)
+none_left s (at_sch {root} {last} {n} {v} {w} two lo hi) = ap (λ z. z.live) (both_gone root last n v w two.pos)
 
 number_below : (s : Scheme) {m : Model} → Sound s m → m.state ≡ ConfirmedSch → m.number ≤ s.final
 number_below s (at_idle b) e = absurd (cc)
@@ -146,11 +154,13 @@ kept s law {m} H g o quiet = record {
     destroyed_once = H.books.once;
     destroyed_made = within_less _ _ H.books.real;
     none_idle = idle_empty s H.sound;
+    put_away = none_left s H.sound;
   };
   sessions = record {
     runs = λ e. H.some (linked_at m e);
     confirmed = λ n since r. confirmed_at m.state (H.all n since r).linked;
     key = λ n since r. link_live s H.sound (H.all n since r);
+    link = λ n since r. sym (H.all n since r).key;
     number = λ n since r. (H.all n since r).number;
     last = number_below s H.sound;
     handed = g;

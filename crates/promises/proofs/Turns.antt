@@ -8,11 +8,12 @@ use Rattle.protocol.specs.declared.outcomes.Outcome.{Outcome}
 use Rattle.protocol.specs.declared.refusals.Refusal.{Refusal}
 use Rattle.protocol.specs.declared.faults.Fault.{Fault}
 use Rattle.protocol.specs.Numbers.{state_mark, confirmation_number}
-use Rattle.protocol.specs.Models.{Model}
+use Rattle.protocol.specs.Models.{Model, without_key}
 use Rattle.protocol.specs.Calls.{Call, invoke, send, retrieve_data, retrieve_secret, terminate, frame, release, refused, ended}
 use Rattle.histories.specs.Histories.{member, listed, hands, made_in, destroyed_in, started_by}
 use Rattle.promises.proofs.Cases.{clash}
 use Rattle.promises.proofs.Books.{Clears, none, one, two}
+use Rattle.promises.proofs.Forms.{none_live, one_live, two_live}
 use Rattle.promises.proofs.Ledgers.{other}
 use Rattle.promises.proofs.Sounds.{SecretOnly, Sound, at_idle, at_select, at_secret, at_sch, in_sch, Silent, Did, outside, inside, ends}
 
@@ -67,18 +68,30 @@ link_cleared n =
     let self' = eq-eqb (n + 1) (n + 1) refl in
     rw (ne', self')
 
-pub did_ended : (s : Scheme) (c : Call) (k : Confirmation) (r : List ℕ) (f : Option Fault) {m : Model} → eqb (confirmation_number k) 1 ≡ false → Sound s m → Did s c m (ended m k r f)
-did_ended s c k r f e (at_idle b) = ends (at_idle b) refl refl refl refl (none_started _ e) none (λ x. clash false refl x)
-did_ended s c k r f e (at_select b h) = ends (at_idle b) refl refl refl refl (none_started _ e) none (λ x. clash false refl x)
-did_ended s c k r f e (at_secret {n} state h o) =
-    let ne = above_zero n o.pos in
+-- the shared secret of a suite goes, and with it a link key
+
+pub secret_gone : (root : List ℕ) (last n : ℕ) (v : List ℕ) → 0 < n → without_key (one_live root last n v) n ≡ none_live root last n
+secret_gone root last n v h =
+    let ne = above_zero n h in
     let self = eq-eqb n n refl in
-    let out = not_linked h in
-    rw (ne, self) (ends (at_idle o.base) refl refl refl refl (none_started _ e) (one_cleared n o.pos) (λ x. clash _ out x))
-did_ended s c k r f e (at_sch {n} h lo hi) =
-    let ne = above_zero n h.pos in
+    rw (ne, self) refl
+
+pub both_gone : (root : List ℕ) (last n : ℕ) (v w : List ℕ) → 0 < n → without_key (without_key (two_live root last n v w) (n + 1)) n ≡ none_live root last (n + 1)
+both_gone root last n v w h =
+    let ne = above_zero n h in
     let self = eq-eqb n n refl in
     let ne' = above_zero (n + 1) (omega arith) in
     let self' = eq-eqb (n + 1) (n + 1) refl in
     let apart : eqb n (n + 1) ≡ false = ne_eqb n (n + 1) (λ x. omega arith) in
-    rw (ne', apart, self', ne, self) (ends (at_idle h.base) refl refl refl refl (none_started _ e) (two_cleared n h.pos) (λ x. link_cleared n))
+    rw (ne', apart, self', ne, self) refl
+
+pub did_ended : (s : Scheme) (c : Call) (k : Confirmation) (r : List ℕ) (f : Option Fault) {m : Model} → eqb (confirmation_number k) 1 ≡ false → Sound s m → Did s c m (ended m k r f)
+did_ended s c k r f e (at_idle b) = ends (at_idle b) refl refl refl refl (none_started _ e) none (λ x. clash false refl x)
+did_ended s c k r f e (at_select b h) = ends (at_idle b) refl refl refl refl (none_started _ e) none (λ x. clash false refl x)
+did_ended s c k r f e (at_secret {root} {last} {n} {v} state h o) =
+    let out = not_linked h in
+    let gone = secret_gone root last n v o.pos in
+    rw gone (ends (at_idle o.base) refl refl refl refl (none_started _ e) (one_cleared n o.pos) (λ x. clash _ out x))
+did_ended s c k r f e (at_sch {root} {last} {n} {v} {w} h lo hi) =
+    let gone = both_gone root last n v w h.pos in
+    rw gone (ends (at_idle h.base) refl refl refl refl (none_started _ e) (two_cleared n h.pos) (λ x. link_cleared n))

@@ -1,4 +1,5 @@
 -- The promises of specs/, whole.
+use Rattle.suite.proofs.KeyLaws.{one_kind-sym}
 use Rattle.promises.specs.Promises.{Promises}
 use Rattle.promises.proofs.Keeping.{every_run, every_session}
 use Rattle.promises.proofs.Pairs.{kinds_alike, both_ways, ordered}
@@ -9,5 +10,6 @@ promises_hold = record {
   every_session = every_session;
   kinds_alike = kinds_alike;
   both_ways = both_ways;
+  kinds_both_ways = one_kind-sym;
   ordered = ordered;
 }

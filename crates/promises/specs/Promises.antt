@@ -10,7 +10,7 @@ use Rattle.suite.specs.Meanings.{Meaning, Keyring, Formed, Bytes, Bytes16, WellF
 use Rattle.suite.specs.Schemes.{Scheme, Lawful, OneKind}
 use Rattle.suite.specs.Calls.{adding, offered, agreed, derived, checked, revealed, sealed, opened, destroy_answer}
 use Rattle.protocol.specs.declared.states.State.TheVariants.{Idle, Select, ConfirmedSch}
-use Rattle.protocol.specs.Models.{Model, KeysLive, has_secret, without_key}
+use Rattle.protocol.specs.Models.{Model, KeysLive, has_secret, without_key, idle}
 use Rattle.protocol.specs.Calls.{Call, GivenBytes}
 use Rattle.histories.specs.Histories.{History, Fresh, after, history, made, destroyed, less, Distinct, Runs, Running, sent, taken, handing, handed}
 use Rattle.histories.specs.Records.{link_in, Over, Session, Way, was_sent, was_handed, charges, those}
@@ -30,6 +30,8 @@ pub record KeysAccounted (m : Model) (h : History) : Type 0 where
   pub destroyed_once : Distinct (destroyed h)
   pub destroyed_made : less (destroyed h) (made h) ≡ []
   pub none_idle : m.state ≡ Idle → m.means.live ≡ []
+  -- an entity that is put away, in whatever state, leaves a suite with no live key
+  pub put_away : (idle m).means.live ≡ []
 
 -- Link sessions.
 
@@ -44,7 +46,9 @@ pub record SessionsKept (s : Scheme) (m : Model) (h : History) : Type 0 where
   pub confirmed : (n : ℕ) (since : History) → Runs n h since → m.state ≡ ConfirmedSch
   -- the session's number is the serial of a live link key
   pub key : (n : ℕ) (since : History) → Runs n h since → (value : List ℕ) × (value_in m.means.live LinkKey n ≡ Some value)
-  -- there the number is the first, and one more for each record sent or taken in since the start; it never passes the last
+  -- it is by this serial that the entity seals and opens
+  pub link : (n : ℕ) (since : History) → Runs n h since → m.link ≡ n
+  -- in a session the number is the first, and one more for each record sent or taken in since the start; it never passes the last
   pub number : (n : ℕ) (since : History) → Runs n h since → m.number ≡ s.first + length (sent since) + length (taken since)
   pub last : m.state ≡ ConfirmedSch → m.number ≤ s.final
   pub handed : HandedInSession h
@@ -136,6 +140,10 @@ KindsOpenAlike = (s t : Scheme) → OneKind s t → OpensAlike s t
 abbrev pub AlikeBothWays : Type 0
 AlikeBothWays = (s t : Scheme) → OpensAlike s t → OpensAlike t s
 
+-- so it is with being of one kind
+abbrev pub KindsBothWays : Type 0
+KindsBothWays = (s t : Scheme) → OneKind s t → OneKind t s
+
 -- what was handed out in one session, beside what was sent in the other, and the numbers of the records sent in the two
 pub record Follows (out told : List (List ℕ)) (mine theirs : List ℕ) : Type 0 where
   -- it is a part of what was sent, in its order
@@ -159,4 +167,5 @@ pub record Promises : Type 0 where
   pub every_session : EverySession
   pub kinds_alike : KindsOpenAlike
   pub both_ways : AlikeBothWays
+  pub kinds_both_ways : KindsBothWays
   pub ordered : Ordered
