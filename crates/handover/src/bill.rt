@@ -2,7 +2,7 @@
 use super::log::Made;
 use super::stopped::Stopped;
 use entity::Entity;
-use replay::{Entry, Logged, Record, Way, charged, replay};
+use replay::{Entry, Logged, Record, Way, handed_count, replay};
 use std::alloc::{AllocError, Global};
 use suite::Suite;
 
@@ -50,6 +50,6 @@ pub(super) fn bill<S: Suite, T: Suite>(
     let told = replay(alloc, handset, controller, &one, &other)?;
     show_records(rt, "controller", &told.other)?;
     show_records(rt, "handset", &told.one)?;
-    let charged = charged(&told.one);
+    let charged = handed_count(&told.one);
     Ok(println!(rt; "  charged: {charged} records")?)
 }

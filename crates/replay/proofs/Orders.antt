@@ -1,5 +1,5 @@
 -- What is promised of every run, and of every two link sessions, holds of what a replay tells.
-use Rattle.std.proofs.Common.{◌≡◌, List, reverse, sym, ap, ◌∙◌, subst}
+use Rattle.std.proofs.Common.{◌≡◌, List, [], reverse, sym, ap, ◌∙◌, subst}
 use Rattle.std.specs.List.{AllByRecursion}
 use Rattle.suite.specs.Schemes.{Scheme, Lawful}
 use Rattle.protocol.specs.Models.{Model}
@@ -10,16 +10,17 @@ use Rattle.promises.specs.Promises.{Kept}
 use Rattle.promises.proofs.Keeping.{every_run, sent_told, handed_told}
 use Rattle.promises.proofs.Pairs.{ordered}
 use Rattle.replay.specs.declared.entry.Entry.{Entry}
-use Rattle.replay.specs.Entries.{told_history, told_records}
+use Rattle.replay.specs.Entries.{told_history, InPlace, told_records}
 use Rattle.replay.specs.Replays.{Replayed, OrderTold}
 
 pub replayed : (s : Scheme) → Lawful s → (m : Model) (calls : List Call) (left : Model) (entries : List Entry)
-    → left ≡ after s m (reverse calls) → told_history calls entries ≡ history s m (reverse calls)
+    → left ≡ after s m (reverse calls) → told_history calls entries ≡ history s m (reverse calls) → InPlace [] calls entries
     → told_records entries ≡ charges (history s m (reverse calls)) → AllByRecursion GivenBytes (reverse calls)
     → Replayed s m calls left entries
-replayed s law m calls left entries model told records bytes = record {
+replayed s law m calls left entries model told in_place records bytes = record {
   model = model;
   told = told;
+  in_place = in_place;
   records = records;
   bytes = bytes;
   kept = λ fresh.

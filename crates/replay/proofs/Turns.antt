@@ -14,14 +14,18 @@ use Rattle.histories.specs.Records.{Charge, charges, link_in, next_session, char
 use Rattle.replay.specs.declared.logged.Logged.{Logged}
 use Rattle.replay.specs.declared.entry.Entry.{Entry}
 use Rattle.replay.specs.Called.{called, calls_of}
-use Rattle.replay.specs.Entries.{told, told_each, told_history, told_records, charge_of}
+use Rattle.replay.specs.Entries.{told, told_each, told_history, InPlace, told_records, charge_of}
+
+-- the calls of a log so far, and one more
+calls_on : (log : List Logged) (i : ℕ) (x : Logged) → i < length log → calls_of (take (i + 1) log) ≡ calls_of (take i log) ++ (called (get_or log i x) ∷ [])
+calls_on log i x h = ap calls_of (take_more log i x h) ∙ map-append called (take i log) (get_or log i x ∷ [])
 
 pub calls_more : (log : List Logged) (i : ℕ) (x : Logged) → i < length log → reverse (calls_of (take (i + 1) log)) ≡ called (get_or log i x) ∷ reverse (calls_of (take i log))
-calls_more log i x h =
-    let one = get_or log i x ∷ [] in
-    ap (λ z. reverse (calls_of z)) (take_more log i x h)
-    ∙ ap reverse (map-append called (take i log) one)
-    ∙ reverse-append (calls_of (take i log)) (called (get_or log i x) ∷ [])
+calls_more log i x h = ap reverse (calls_on log i x h) ∙ reverse-append (calls_of (take i log)) (called (get_or log i x) ∷ [])
+
+-- there are as many calls as entries so far
+as_many : (log : List Logged) (entries : List Entry) (i : ℕ) → i < length log → length entries ≡ length log → length (calls_of (take i log)) ≡ length (take i entries)
+as_many log entries i h long = length-map (take i log) called ∙ simp length-take (omega arith)
 
 each_more : (cs : List Call) (es : List Entry) (c : Call) (e : Entry) → length cs ≡ length es → told_each (cs ++ (c ∷ [])) (es ++ (e ∷ [])) ≡ told_each cs es ++ (told c e ∷ [])
 each_more [] [] c e h = refl
@@ -33,13 +37,32 @@ pub told_more : (log : List Logged) (entries : List Entry) (i : ℕ) (x : Logged
     → told_history (calls_of (take (i + 1) log)) (take (i + 1) (set entries i e)) ≡ told (called (get_or log i x)) e ∷ told_history (calls_of (take i log)) (take i entries)
 told_more log entries i x e h long =
     let low : i < length entries = omega arith in
-    let one = get_or log i x ∷ [] in
-    let same : length (calls_of (take i log)) ≡ length (take i entries) = length-map (take i log) called ∙ simp length-take (omega arith) in
-    ap (λ z. told_history (calls_of z) (take (i + 1) (set entries i e))) (take_more log i x h)
-    ∙ ap (told_history (calls_of (take i log ++ one))) (take_more_set entries i e low)
-    ∙ ap (λ z. told_history z (take i entries ++ (e ∷ []))) (map-append called (take i log) one)
-    ∙ ap reverse (each_more (calls_of (take i log)) (take i entries) (called (get_or log i x)) e same)
+    ap (λ z. told_history z (take (i + 1) (set entries i e))) (calls_on log i x h)
+    ∙ ap (told_history (calls_of (take i log) ++ (called (get_or log i x) ∷ []))) (take_more_set entries i e low)
+    ∙ ap reverse (each_more (calls_of (take i log)) (take i entries) (called (get_or log i x)) e (as_many log entries i h long))
     ∙ reverse-append (told_each (calls_of (take i log)) (take i entries)) (told (called (get_or log i x)) e ∷ [])
+
+-- one entry more, at the end, tells the record of its call
+in_place_on : (before : h.History) (cs : List Call) (es : List Entry) (c : Call) (e : Entry) → InPlace before cs es → charge_of e.record ≡ charged_in (link_in (told_history cs es ++ before)) (told c e) → InPlace before (cs ++ (c ∷ [])) (es ++ (e ∷ []))
+in_place_on before [] [] c e so_far one = (one, tt)
+in_place_on before [] (x ∷ es) c e so_far one = absurd so_far
+in_place_on before (k ∷ cs) [] c e so_far one = absurd so_far
+in_place_on before (k ∷ cs) (x ∷ es) c e so_far one =
+    let same : told_history (k ∷ cs) (x ∷ es) ++ before ≡ told_history cs es ++ (told k x ∷ before) =
+    ap (λ z. z ++ before) (reverse-append (told k x ∷ []) (told_each cs es)) ∙ append_assoc (reverse (told_each cs es)) (told k x ∷ []) before in
+    (so_far.0, in_place_on (told k x ∷ before) cs es c e so_far.1 (one ∙ ap (λ z. charged_in (link_in z) (told c e)) same))
+
+pub in_place_more : (log : List Logged) (entries : List Entry) (i : ℕ) (x : Logged) (e : Entry) (session : ℕ) → i < length log → length entries ≡ length log
+    → InPlace [] (calls_of (take i log)) (take i entries) → session ≡ link_in (told_history (calls_of (take i log)) (take i entries)) → charge_of e.record ≡ charged_in session (told (called (get_or log i x)) e)
+    → InPlace [] (calls_of (take (i + 1) log)) (take (i + 1) (set entries i e))
+in_place_more log entries i x e session h long so_far runs one =
+    let low : i < length entries = omega arith in
+    let c = called (get_or log i x) in
+    let cs = calls_of (take i log) in
+    let es = take i entries in
+    let own : charge_of e.record ≡ charged_in (link_in (told_history cs es ++ [])) (told c e) = one ∙ ap (λ n. charged_in n (told c e)) runs ∙ ap (λ z. charged_in (link_in z) (told c e)) (sym (append-nil (told_history cs es))) in
+    subst (λ z. InPlace [] z (take (i + 1) (set entries i e))) (sym (calls_on log i x h))
+    (subst (InPlace [] (cs ++ (c ∷ []))) (sym (take_more_set entries i e low)) (in_place_on [] cs es c e so_far own))
 
 records_on : (es : List Entry) (e : Entry) → told_records (es ++ (e ∷ [])) ≡ told_records es ++ charge_of e.record
 records_on [] e = append-nil (charge_of e.record)

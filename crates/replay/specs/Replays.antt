@@ -1,5 +1,5 @@
 -- What a replay of a log tells, and leaves.
-use Rattle.std.specs.Prelude.{◌≡◌, ℕ, List, ◌++◌, reverse}
+use Rattle.std.specs.Prelude.{◌≡◌, ℕ, List, [], ◌++◌, reverse}
 use Rattle.std.specs.List.{AllByRecursion}
 use Rattle.suite.specs.Schemes.{Scheme}
 use Rattle.protocol.specs.Models.{Model}
@@ -10,7 +10,7 @@ use Rattle.histories.specs.Sessions.{encs, numbers, OnlyCopies, LinkSession, key
 use Rattle.promises.specs.Promises.{Kept, OpensAlike, Follows, Promises}
 use Rattle.exchanges.specs.Exchanges.{Undisturbed}
 use Rattle.replay.specs.declared.entry.Entry.{Entry}
-use Rattle.replay.specs.Entries.{told_history, told_records}
+use Rattle.replay.specs.Entries.{told_history, InPlace, told_records}
 
 -- what is promised of every run of calls, of every two link sessions, and of every undisturbed exchange
 abbrev pub Promised : Type 0
@@ -22,6 +22,8 @@ pub record Replayed (s : Scheme) (m : Model) (calls : List Call) (left : Model) 
   pub model : left ≡ after s m (reverse calls)
   -- log and entries tell the history of these calls on this entity
   pub told : told_history calls entries ≡ history s m (reverse calls)
+  -- there is an entry for each call, and a record stands at the entry of the call that sent it or handed it out
+  pub in_place : InPlace [] calls entries
   -- the records that the entries tell are those of the history, session by session
   pub records : told_records entries ≡ charges (history s m (reverse calls))
   -- what the calls were given are bytes

@@ -1,5 +1,5 @@
 ghost use Rattle.std.specs.Prelude.{◌≡◌};
-ghost use Rattle.replay.specs.Entries.{charged, hands_over};
+ghost use Rattle.replay.specs.Entries.{handed_count, hands_over};
 
 use super::entry::{Entry, Record, Way};
 
@@ -15,9 +15,9 @@ fn hands_over(entry: &Entry) -> bool
     )
 }
 
-/// How many records the entries tell as handed, of all sessions together: what is charged where a user pays for what was handed.
-pub fn charged(entries: &[Entry]) -> usize
-    ensures { result ≡ charged entries.now }
+/// How many records the entries tell as handed, of all sessions together: what is billed where a user pays for what was handed.
+pub fn handed_count(entries: &[Entry]) -> usize
+    ensures { result ≡ handed_count entries.now }
 {
     entries.iter().filter(|entry| hands_over(entry)).count()
 }

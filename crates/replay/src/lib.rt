@@ -10,6 +10,6 @@ mod note;
 mod play;
 
 pub use again::{Transcripts, replay};
-pub use bill::charged;
+pub use bill::handed_count;
 pub use entry::{Entry, Record, Way, Written};
 pub use logged::Logged;

@@ -1,10 +1,11 @@
-use Rattle.std.proofs.Common.{◌≡◌, ◌+◌, ◌<◌, ◌≤◌, length, take, reverse, subst, arith, rules}
+use Rattle.std.proofs.Common.{◌≡◌, sym, ap, ◌∙◌, ◌+◌, ◌<◌, ◌≤◌, length, take, reverse, subst, arith, rules}
 use Rattle.std.proofs.lemmas.List.{take_all}
+use Rattle.histories.specs.Records.{link_in}
 use Rattle.entity.specs.Views.{view}
 use Rattle.replay.specs.Called.{calls_of}
 use Rattle.replay.specs.Replays.{Replayed}
 use Rattle.replay.proofs.Orders.{replayed}
-use Rattle.replay.proofs.Turns.{calls_more, told_more, records_more, given_more, model_more, entry_is, history_more, charges_more, session_more}
+use Rattle.replay.proofs.Turns.{calls_more, told_more, in_place_more, records_more, given_more, model_more, entry_is, history_more, charges_more, session_more}
 use Rattle.replay.proofs.play.play.Goals as goal
 
 pub loop-i-preserved : goal.loop-i-preserved
@@ -28,6 +29,7 @@ loop-i-preserved g c =
       bytes = given_more s m old new _ before e so_far.model c.given.ensures so_far.bytes;
       model = model_more s m old new _ before e so_far.model _ made.model;
       told = history_more s m old new _ before e so_far.model _ _ _ x so_far.told (told_more log c.loop-i.entries i _ c.note.result low so_far.places);
+      in_place = in_place_more log c.loop-i.entries i _ c.note.result c.loop-i.session low so_far.places so_far.in_place (so_far.session ∙ sym (ap link_in so_far.told)) c.note.ensures.record;
       records = charges_more s m old new _ before e so_far.model _ _ _ _ c.loop-i.session x so_far.records so_far.session c.note.ensures.record (records_more c.loop-i.entries i c.note.result place);
       session = session_more s m old new _ before e so_far.model c.make-answer.result.0 c.loop-i.session _ made.answer so_far.session c.next_session-session.ensures;
     }
@@ -42,4 +44,4 @@ returns g c =
     let all_told : take c.loop-i.i c.loop-i.entries ≡ c.loop-i.entries = take_all _ _ long in
     subst (λ z. Replayed s m (calls_of z) (view g.S.HasMeaning.meaning c.loop-i.entity) c.loop-i.entries) all
     (subst (λ z. Replayed s m (calls_of (take c.loop-i.i c.args.log.now)) (view g.S.HasMeaning.meaning c.loop-i.entity) z) all_told
-    (replayed s g.met.S.Suite.lawful m (calls_of (take c.loop-i.i c.args.log.now)) _ _ so_far.model so_far.told so_far.records so_far.bytes))
+    (replayed s g.met.S.Suite.lawful m (calls_of (take c.loop-i.i c.args.log.now)) _ _ so_far.model so_far.told so_far.in_place so_far.records so_far.bytes))

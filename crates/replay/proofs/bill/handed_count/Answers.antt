@@ -2,7 +2,7 @@ use Rattle.std.proofs.Common.{◌≡◌, count_by, sym, ◌∙◌, of_calls}
 use Rattle.std.proofs.lemmas.List.Sums.{length-filter}
 use Rattle.replay.specs.Entries.{hands_over}
 use Rattle.replay.proofs.Counts.{count_is}
-use Rattle.replay.proofs.bill.charged.Goals as goal
+use Rattle.replay.proofs.bill.handed_count.Goals as goal
 
 pub returns : goal.returns
 returns c =
