@@ -21,7 +21,7 @@ role_ok Recipient = refl
 role_fits : (r : Role) → not (ok_role (role_byte r)) ≡ false
 role_fits r = not_from_true (ok_role (role_byte r)) (role_ok r)
 
-room_enough : (room : ℕ) → 255 ≤ room → no_room room ≡ false
+pub room_enough : (room : ℕ) → 255 ≤ room → no_room room ≡ false
 room_enough room h = le-ltb room 255 h
 
 seed_fits : (seed : List ℕ) → length seed ≡ 16 → wrong_seed seed ≡ false
