@@ -1,4 +1,4 @@
-// Quota and ledger over the bench suite, in both orders.
+// A ledger over the bench suite, and a quota over a ledger.
 ghost use Rattle.std.specs.Prelude.{IfSome};
 ghost use Rattle.ledger.specs.Ledgers.{ledger_meaning};
 ghost use Rattle.ledger.specs.Rows.{TrueOf};
@@ -45,14 +45,6 @@ fn rows_after_use(rt: HostRuntime) {
     assert_eq!(rt; first, Some(secret));
     assert_eq!(rt; suite.rows(), [secret, link].as_slice());
     let _root = suite.into_below().close();
-}
-
-#[test]
-fn ledger_over_quota(rt: HostRuntime) {
-    let suite = Ledger::new(Quota::new(Bench::new(ROOT), 40));
-    let last = suite.last_serial();
-    let root = suite.into_below().into_below().close();
-    assert_eq!(rt; (last, root), (32, ROOT));
 }
 
 #[test]
