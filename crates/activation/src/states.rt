@@ -7,13 +7,13 @@ use std::fmt;
 
 const SEC: u8 = 0x80;
 
-// An activation that one peer has offered with its own byte, PPi or PPt.
+/// An activation that one peer has offered with its own byte, PPi or PPt.
 #[derive(Drop)]
 pub struct Offered {
     own: u8,
 }
 
-// An activation in which both peers support NFC-SEC. It makes one entity, which takes it.
+/// An activation in which both peers support NFC-SEC. It makes one entity, which takes it.
 #[derive(Drop)]
 pub struct Agreed {
     offer: Offered,
@@ -22,11 +22,11 @@ pub struct Agreed {
 
 #[derive(Clone, Copy, Debug, PartialEq, Eq)]
 pub enum Refusal {
-    // A SEC bit is ZERO: one of the peers does not support NFC-SEC.
+    /// A SEC bit is ZERO: one of the peers does not support NFC-SEC.
     NotSupported = 11,
 }
 
-// A refused activation, with the offer for another try.
+/// A refused activation, with the offer for another try.
 #[derive(Drop)]
 pub struct Refused {
     pub refusal: Refusal,
@@ -40,7 +40,7 @@ fn supports(pp: u8) -> bool
 }
 
 impl Refusal {
-    // A cast under a name of its own: `u8::from` would not say which number it is.
+    /// Its number. A method, since `u8::from` would not say which number it is.
     pub fn number(self) -> u8
         ensures { result ≡ refusal_number self }
     {
@@ -61,14 +61,14 @@ impl fmt::Display for Refusal {
 impl Error for Refusal {}
 
 impl Offered {
-    // Any byte can be offered.
+    /// Any byte can be offered.
     pub fn new(own: u8) -> Offered
         ensures { result.own ≡ own }
     {
         Self { own }
     }
 
-    // Takes the peer's byte: the offer becomes an agreed activation, or comes back.
+    /// Takes the peer's byte: the offer becomes an agreed activation, or comes back.
     pub fn agree(self, peer: u8) -> Result<Agreed, Refused>
         ensures { answer result ≡ exchange self.own peer }
     {
@@ -84,12 +84,14 @@ impl Offered {
 }
 
 impl Agreed {
+    /// The byte of this end, PPi or PPt.
     pub fn own(&self) -> u8
         ensures { result ≡ self.now.offer.own }
     {
         self.offer.own
     }
 
+    /// The byte of the peer.
     pub fn peer(&self) -> u8
         ensures { result ≡ self.now.peer }
     {

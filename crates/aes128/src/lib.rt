@@ -13,13 +13,14 @@ use rounds::encrypt_with;
 use schedule::expand_key;
 pub use tables::sbox;
 
-// A key, expanded once for any number of blocks.
+/// A key, expanded once for any number of blocks.
 #[derive(Drop)]
 pub struct Aes128 {
     keys: [[u32; 4]; 11],
 }
 
 impl Aes128 {
+    /// Expands a key of 16 bytes (FIPS 197, clause 5.2).
     pub fn new(key: &[u8; 16]) -> Aes128
         ensures { words_of result ≡ schedule_of key.now }
     {
@@ -28,6 +29,7 @@ impl Aes128 {
         }
     }
 
+    /// Encrypts a block of 16 bytes (FIPS 197, clause 5.1).
     pub fn encrypt(&self, block: &[u8; 16]) -> [u8; 16]
         ensures { result ≡ cipher_with (words_of self.now) block.now }
     {

@@ -184,7 +184,7 @@ const MIXED: [[u32; 256]; 4] = [
     ],
 ];
 
-// The S-box by its table. Its rule takes the multiplicative inverse, and that is one.
+/// The S-box by its table. Its rule takes the multiplicative inverse, and that is one.
 pub fn sbox(a: u8) -> u8
     ensures value { result ≡ sub_byte a }
     ensures inverse { InverseStands }

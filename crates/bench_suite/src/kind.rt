@@ -16,7 +16,7 @@ const NUMBERS: KindNumbers = KindNumbers {
     last_number: 65_535,
 };
 
-// The kind of the bench suite.
+/// The kind of the bench suite.
 #[derive(Clone, Copy)]
 pub struct BenchKind;
 

@@ -10,7 +10,7 @@ mod blocks;
 use aes128::Aes128;
 use blocks::{doubled, pad, xor_block};
 
-// The subkeys K1 and K2.
+/// The subkeys K1 and K2.
 pub fn subkeys(cipher: &Aes128) -> ([u8; 16], [u8; 16])
     ensures first { result.0 ≡ subkey1 (words_of cipher.now) }
     ensures second { result.1 ≡ subkey2 (words_of cipher.now) }
@@ -31,7 +31,7 @@ fn last_block(cipher: &Aes128, rest: &[u8]) -> [u8; 16]
     }
 }
 
-// The tag of a text, under a key that is expanded.
+/// The tag of a text, under a key that is expanded.
 pub fn tag(cipher: &Aes128, text: &[u8]) -> [u8; 16]
     ensures { result ≡ cmac_with (words_of cipher.now) text.now }
 {
@@ -47,7 +47,7 @@ pub fn tag(cipher: &Aes128, text: &[u8]) -> [u8; 16]
     cipher.encrypt(&xor_block(last_block(cipher, rest), x))
 }
 
-// The tag of a text under a key.
+/// The tag of a text under a key.
 pub fn cmac(key: &[u8; 16], text: &[u8]) -> [u8; 16]
     ensures { result ≡ mac_of key.now text.now }
 {

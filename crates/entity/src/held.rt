@@ -3,7 +3,7 @@ ghost use Rattle.std.specs.Prelude.{◌≡◌, ℕ, ◌-◌, ◌≤◌, ◌==◌
 use crate::bytes::write_front;
 use std::marker::Model;
 
-// Data that waits for its user. Past the data the place has zeros, so a place without data is all zeros.
+/// Data that waits for its user. Past the data the place has zeros, so a place without data is all zeros.
 #[derive(Drop)]
 pub struct Held {
     place: [u8; 200],

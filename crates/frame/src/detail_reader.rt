@@ -4,7 +4,7 @@ ghost use Rattle.frame.specs.Details.{before_zero, detail as detail_of, EndsAtZe
 
 use super::types::{Body, Message};
 
-// The detail of an ERROR: a part of the frame, with its place there.
+/// The detail of an ERROR: a part of the frame, with its place there.
 #[derive(Clone, Copy, Debug, PartialEq, Eq)]
 pub struct Detail<'a> {
     pub place: usize,
@@ -38,7 +38,7 @@ fn detail_bytes<'a>(body: &Body<'a>) -> &'a [u8]
 }
 
 impl<'a> Message<'a> {
-    // What an ERROR says before its first 00; empty for any other message.
+    /// What an ERROR says before its first 00; empty for any other message.
     pub fn detail(&self) -> Detail<'a>
         ensures place { result.place ≡ 1 }
         ensures bytes { result.bytes.now ≡ detail_of (said_by self.now.body) }

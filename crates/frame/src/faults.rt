@@ -6,17 +6,17 @@ ghost use Rattle.frame.specs.declared.faults.ReadError.TheVariants.{Refused, Fau
 use std::error::Error;
 use std::fmt;
 
-// Why a call is refused.
+/// Why a call is refused.
 #[derive(Clone, Copy, Debug, PartialEq, Eq)]
 pub enum Refusal {
-    // The buffer has fewer than 255 bytes.
+    /// The buffer has fewer than 255 bytes.
     ReplyBuffer = 1,
-    // The frame has no byte or more than 255, or is a TMN with payload.
+    /// The frame has no byte or more than 255, or is a TMN with payload.
     FrameLength = 3,
 }
 
 impl Refusal {
-    // A cast under a name of its own: `u8::from` would not say which number it is.
+    /// Its number. A method, since `u8::from` would not say which number it is.
     pub fn number(self) -> u8
         ensures { result ≡ refusal_number self }
     {
@@ -38,21 +38,21 @@ impl fmt::Display for Refusal {
 
 impl Error for Refusal {}
 
-// What is wrong with the form of a frame.
+/// What is wrong with the form of a frame.
 #[derive(Clone, Copy, Debug, PartialEq, Eq)]
 pub enum CodecFault {
-    // C1: an RFU bit is ONE.
+    /// C1: an RFU bit is ONE.
     RfuBit,
-    // C2: the service is neither SSE nor SCH.
+    /// C2: the service is neither SSE nor SCH.
     NoService,
-    // C3: the message is none that the standard names.
+    /// C3: the message is none that the standard names.
     NoMessage,
-    // C4: an ACT_REQ without PID, or a TMN with payload.
+    /// C4: an ACT_REQ without PID, or a TMN with payload.
     WrongFields,
 }
 
-// A fault as it is reported: layer letter and cause digit, and the place in the frame.
-// Letter and digit are bytes in ASCII, since the detail of an ERROR is made of them.
+/// A fault as it is reported: layer letter and cause digit, and the place in the frame.
+/// Letter and digit are bytes in ASCII, since the detail of an ERROR is made of them.
 #[derive(Clone, Copy, Debug, PartialEq, Eq)]
 pub struct FaultCode {
     pub letter: u8,
@@ -72,6 +72,7 @@ impl fmt::Display for FaultCode {
 }
 
 impl CodecFault {
+    /// Letter, digit and place of the fault, C1 to C4.
     pub fn code(self) -> FaultCode
         ensures { result ≡ fault_code self }
     {
@@ -105,7 +106,7 @@ impl fmt::Display for CodecFault {
 
 impl Error for CodecFault {}
 
-// Why bytes are not taken as a message.
+/// Why bytes are not taken as a message.
 #[derive(Clone, Copy, Debug, PartialEq, Eq)]
 pub enum ReadError {
     Refused(Refusal),

@@ -44,7 +44,7 @@ fn read_fields(sep: u8, rest: &[u8]) -> Result<Message<'_>, ReadError>
     Ok(Message { service, body })
 }
 
-// Takes a frame apart. The message borrows its payload from the frame.
+/// Takes a frame apart. The message borrows its payload from the frame.
 pub fn read(frame: &[u8]) -> Result<Message<'_>, ReadError>
     ensures answer { read_as result ≡ reading frame.now }
     ensures again { WritesAgain frame.now (read_as result) }

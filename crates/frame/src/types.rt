@@ -7,19 +7,19 @@ ghost use Rattle.frame.specs.Words.{service_words, message_words};
 use super::faults::CodecFault;
 use std::fmt;
 
-// The longest frame, and the least buffer that the writer takes.
+/// The longest frame, and the least buffer that the writer takes.
 pub const MAX_FRAME: usize = 255;
 
 #[derive(Clone, Copy, Debug, PartialEq, Eq)]
 pub enum Service {
-    // The shared secret service.
+    /// The shared secret service.
     Sse = 0,
-    // The secure channel service.
+    /// The secure channel service.
     Sch = 1,
 }
 
 impl Service {
-    // The SVC bits of SEP: a cast under a name of its own, since `u8::from` would not say which number it is.
+    /// The SVC bits of SEP: a cast under a name of its own, since `u8::from` would not say which number it is.
     pub fn code(self) -> u8
         ensures { result ≡ service_code self }
     {
@@ -66,7 +66,7 @@ pub enum MessageKind {
 }
 
 impl MessageKind {
-    // The MSG bits of SEP: a cast under a name of its own, since `u8::from` would not say which number it is.
+    /// The MSG bits of SEP: a cast under a name of its own, since `u8::from` would not say which number it is.
     pub fn code(self) -> u8
         ensures { result ≡ message_code self }
     {
@@ -111,16 +111,16 @@ impl fmt::Display for MessageKind {
     }
 }
 
-// What follows SEP. A payload is lent by whoever has the frame.
+/// What follows SEP. A payload is lent by whoever has the frame.
 #[derive(Clone, Copy, Debug, PartialEq, Eq)]
 pub enum Body<'a> {
-    // PID and payload.
+    /// PID and payload.
     ActReq(u8, &'a [u8]),
     ActRes(&'a [u8]),
     VfyReq(&'a [u8]),
     VfyRes(&'a [u8]),
     Enc(&'a [u8]),
-    // No frame has a payload here; the writer refuses one.
+    /// No frame has a payload here; the writer refuses one.
     Tmn(&'a [u8]),
     Error(&'a [u8]),
 }
@@ -132,6 +132,7 @@ pub struct Message<'a> {
 }
 
 impl<'a> Body<'a> {
+    /// Which message it is.
     pub fn kind(&self) -> MessageKind
         ensures { result ≡ kind_of (said_by self.now) }
     {
@@ -146,7 +147,7 @@ impl<'a> Body<'a> {
         }
     }
 
-    // The payload, without the PID.
+    /// The payload, without the PID.
     pub fn payload(&self) -> &'a [u8]
         ensures { result.now ≡ payload_of (said_by self.now) }
     {

@@ -49,7 +49,7 @@ fn put(message: &Message<'_>, out: &mut [u8]) -> usize
     }
 }
 
-// Writes the frame of a message to the front of `out`, and answers its length.
+/// Writes the frame of a message to the front of `out`, and answers its length.
 pub fn write(message: &Message<'_>, out: &mut [u8]) -> Result<usize, Refusal>
     ensures answer { numbered result ≡ length_answer (writing (parts message.now) (length out.old)) }
     ensures bytes { out.new ≡ written (writing (parts message.now) (length out.old)) out.old }

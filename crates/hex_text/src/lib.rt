@@ -13,7 +13,7 @@ use std::fmt::Write;
 
 #[derive(Clone, Copy, Debug, PartialEq, Eq)]
 pub enum HexError {
-    // What stands at this place is neither a blank nor two digits.
+    /// What stands at this place is neither a blank nor two digits.
     NotHex(usize),
     NoMemory,
 }
@@ -69,7 +69,7 @@ fn byte(high: u8, low: u8) -> Option<u8>
     Some(value(high)? * 16 + value(low)?)
 }
 
-// Reads a line of bytes.
+/// Reads a line of bytes.
 #[tactic(auto, using(crate::proofs::Turns::skips, crate::proofs::Turns::takes))]
 pub fn decode(heap: Global, text: &[u8]) -> Result<Vec<u8>, HexError>
     ensures { Decodes vec_items text.now result }
@@ -90,8 +90,8 @@ pub fn decode(heap: Global, text: &[u8]) -> Result<Vec<u8>, HexError>
     }
 }
 
-// Writes bytes as capital digits, two to a byte, with nothing between. By the library's format: a second crate for hexadecimal digits
-// would say the same in one line too.
+/// Writes bytes as capital digits, two to a byte, with nothing between. By the library's format: a second crate for hexadecimal digits
+/// would say the same in one line too.
 #[tactic(auto, using(crate::proofs::Backs::two_capitals, crate::proofs::Backs::spelled_more))]
 pub fn encode(heap: Global, bytes: &[u8]) -> Result<String, AllocError>
     ensures text { IfOk result (λ t. string_bytes t ≡ spelled bytes.now) }

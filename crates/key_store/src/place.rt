@@ -4,15 +4,15 @@ use suite::KeyKind;
 
 mod calls;
 
-// What a live key goes by.
+/// What a live key goes by.
 #[derive(Clone, Copy, PartialEq, Eq)]
 pub struct Label {
     pub(crate) serial: u32,
     pub(crate) kind: KeyKind,
 }
 
-// Room for one key. Without a label no key is live here, and the bytes are zeros.
-// The value is no part of the Option, since a place without a key has to hold sixteen zeros.
+/// Room for one key. Without a label no key is live here, and the bytes are zeros.
+/// The value is no part of the Option, since a place without a key has to hold sixteen zeros.
 #[derive(Drop)]
 pub struct Place {
     label: Option<Label>,

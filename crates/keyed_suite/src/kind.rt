@@ -17,7 +17,7 @@ const NUMBERS: KindNumbers = KindNumbers {
     last_number: 16_777_215,
 };
 
-// The kind of the keyed suite.
+/// The kind of the keyed suite.
 #[derive(Clone, Copy)]
 pub struct KeyedKind;
 

@@ -10,8 +10,8 @@ use suite::HasMeaning;
 
 mod calls;
 
-// A suite that keeps a row for each key made through it. Its allowance is the number of unused places in the table, and its rows tell
-// of its keys, whoever has used it.
+/// A suite that keeps a row for each key made through it. Its allowance is the number of unused places in the table, and its rows tell
+/// of its keys, whoever has used it.
 pub struct Ledger<S: HasMeaning> {
     below: Quota<S>,
     table: Table,

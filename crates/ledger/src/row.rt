@@ -5,7 +5,7 @@ ghost use Rattle.ledger.specs.Words.{mark_text};
 use std::fmt;
 use suite::KeyKind;
 
-// What became of a key.
+/// What became of a key.
 #[derive(Clone, Copy, Debug, PartialEq, Eq)]
 pub enum RowMark {
     Live = 1,
@@ -13,7 +13,7 @@ pub enum RowMark {
 }
 
 impl RowMark {
-    // A cast under a name of its own: `u8::from` would not say which number it is.
+    /// Its number. A method, since `u8::from` would not say which number it is.
     pub fn number(self) -> u8
         ensures { result ≡ mark_number self }
     {
@@ -32,7 +32,7 @@ impl fmt::Display for RowMark {
     }
 }
 
-// One key that was made through a ledger.
+/// One key that was made through a ledger.
 #[derive(Clone, Copy, Debug, PartialEq, Eq)]
 pub struct Row {
     pub serial: u32,

@@ -9,22 +9,23 @@ use frame::{CodecFault, FaultCode};
 use std::error::Error;
 use std::fmt;
 
-// What is wrong with what a message brings for the suite.
+/// What is wrong with what a message brings for the suite.
 #[derive(Clone, Copy, Debug, PartialEq, Eq)]
 pub enum SuiteFault {
-    // S1: the PID is not the suite's.
+    /// S1: the PID is not the suite's.
     OtherPid,
-    // S2: the offer is not fit.
+    /// S2: the offer is not fit.
     BadOffer,
-    // S3: the suite makes no further key.
+    /// S3: the suite makes no further key.
     NoKey,
-    // S4: the check value is another.
+    /// S4: the check value is another.
     WrongCheck,
-    // S5: the record is not good, is one's own, or its data has no byte or more than 200.
+    /// S5: the record is not good, is one's own, or its data has no byte or more than 200.
     BadRecord,
 }
 
 impl SuiteFault {
+    /// Letter, digit and place of the fault, S1 to S5.
     pub fn code(self) -> FaultCode
         ensures { result ≡ suite_code self }
     {
@@ -59,20 +60,21 @@ impl fmt::Display for SuiteFault {
 
 impl Error for SuiteFault {}
 
-// What is wrong with a frame, by layer.
+/// What is wrong with a frame, by layer.
 #[derive(Clone, Copy, Debug, PartialEq, Eq)]
 pub enum Cause {
     Codec(CodecFault),
-    // M1: the message is not allowed in this state.
+    /// M1: the message is not allowed in this state.
     NotAllowed,
-    // M2: the message is of another service than the session.
+    /// M2: the message is of another service than the session.
     OtherService,
     Suite(SuiteFault),
-    // Q1: the number is not the next, or above the last.
+    /// Q1: the number is not the next, or above the last.
     WrongNumber,
 }
 
 impl Cause {
+    /// Letter, digit and place of the cause.
     pub fn code(self) -> FaultCode
         ensures { result ≡ cause_code self }
     {
@@ -128,14 +130,14 @@ impl From<SuiteFault> for Cause {
     }
 }
 
-// The machine's fault: the cause whole, and the state that it was met in.
+/// The machine's fault: the cause whole, and the state that it was met in.
 #[derive(Clone, Copy, Debug, PartialEq, Eq)]
 pub struct MachineFault {
     pub cause: Cause,
     pub state: State,
 }
 
-// The entity's fault: the machine's whole, and the code of the message at which it was met.
+/// The entity's fault: the machine's whole, and the code of the message at which it was met.
 #[derive(Clone, Copy, Debug, PartialEq, Eq)]
 pub struct Fault {
     pub machine: MachineFault,
@@ -143,6 +145,7 @@ pub struct Fault {
 }
 
 impl Fault {
+    /// Letter, digit and place of its cause.
     pub fn code(self) -> FaultCode
         ensures { result ≡ cause_code self.machine.cause }
     {
@@ -161,7 +164,7 @@ impl fmt::Display for Fault {
 
 impl Error for Fault {}
 
-// A fault on its way up, with the state that it was met in.
+/// A fault on its way up, with the state that it was met in.
 #[derive(Drop)]
 pub struct Met<E> {
     pub fault: E,
@@ -183,7 +186,7 @@ where
     }
 }
 
-// A fault on its way up, with the code of the message at which it was met.
+/// A fault on its way up, with the code of the message at which it was met.
 #[derive(Drop)]
 pub struct At<E> {
     pub fault: E,
@@ -201,14 +204,14 @@ impl From<At<MachineFault>> for Fault {
     }
 }
 
-// A result whose error tells the state.
+/// A result whose error tells the state.
 pub fn met_in<T, E>(state: State, outcome: Result<T, E>) -> Result<T, Met<E>>
     ensures { result ≡ met state outcome }
 {
     outcome.map_err(|fault| Met { fault, state })
 }
 
-// A result whose error tells the message.
+/// A result whose error tells the message.
 pub fn at_message<T, E>(message: u8, outcome: Result<T, E>) -> Result<T, At<E>>
     ensures { result ≡ at message outcome }
 {

@@ -6,22 +6,22 @@ ghost use Rattle.protocol.specs.Words.{confirmation_words};
 use super::faults::Fault;
 use std::fmt;
 
-// What a call tells the user, after annex A.3 of the standard.
+/// What a call tells the user, after annex A.3 of the standard.
 #[derive(Clone, Copy, Debug, PartialEq, Eq)]
 pub enum Confirmation {
-    // No step names one.
+    /// No step names one.
     Nothing = 0,
     Established = 1,
     DataSent = 2,
     DataAvailable = 3,
     Terminated = 4,
     Error = 5,
-    // The record is the newest one again: it is not shown to the user.
+    /// The record is the newest one again: it is not shown to the user.
     Dropped = 6,
 }
 
 impl Confirmation {
-    // A cast under a name of its own: `u8::from` would not say which number it is.
+    /// Its number. A method, since `u8::from` would not say which number it is.
     pub fn number(self) -> u8
         ensures { result ≡ confirmation_number self }
     {
@@ -45,7 +45,7 @@ impl fmt::Display for Confirmation {
     }
 }
 
-// The serials of the keys destroyed by a call, the link key first; 0 for none.
+/// The serials of the keys destroyed by a call, the link key first; 0 for none.
 #[derive(Clone, Copy, Debug, PartialEq, Eq)]
 pub struct Destroyed {
     pub link: u32,
@@ -53,6 +53,7 @@ pub struct Destroyed {
 }
 
 impl Destroyed {
+    /// No key destroyed.
     pub fn nothing() -> Destroyed
         ensures { result ≡ no_keys }
     {
@@ -60,20 +61,20 @@ impl Destroyed {
     }
 }
 
-// What a call that is not refused answers.
+/// What a call that is not refused answers.
 #[derive(Clone, Copy, Debug, PartialEq, Eq)]
 pub struct Outcome {
     pub confirmation: Confirmation,
-    // How many bytes are written to the front of the buffer.
+    /// How many bytes are written to the front of the buffer.
     pub length: usize,
-    // The serial of the key made, or 0.
+    /// The serial of the key made, or 0.
     pub made: u32,
     pub destroyed: Destroyed,
     pub fault: Option<Fault>,
 }
 
 impl Outcome {
-    // The outcome of a step that meets no fault and destroys no key.
+    /// The outcome of a step that meets no fault and destroys no key.
     pub fn quiet(confirmation: Confirmation, length: usize, made: u32) -> Outcome
         ensures { result ≡ quiet confirmation length made }
     {

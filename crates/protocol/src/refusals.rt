@@ -5,33 +5,33 @@ ghost use Rattle.protocol.specs.Words.{refusal_words};
 use std::error::Error;
 use std::fmt;
 
-// Why a call is refused. A refused call changes nothing.
+/// Why a call is refused. A refused call changes nothing.
 #[derive(Clone, Copy, Debug, PartialEq, Eq)]
 pub enum Refusal {
-    // The reply buffer has fewer than 255 bytes.
+    /// The reply buffer has fewer than 255 bytes.
     ReplyBuffer = 1,
-    // The seed has not sixteen bytes.
+    /// The seed has not sixteen bytes.
     SeedLength = 2,
-    // The frame has no byte or more than 255.
+    /// The frame has no byte or more than 255.
     FrameLength = 3,
-    // A record came while the data of the one before it is still held.
+    /// A record came while the data of the one before it is still held.
     DataHeld = 4,
-    // The request is not allowed in this state.
+    /// The request is not allowed in this state.
     WrongState = 5,
-    // The PID is not the suite's.
+    /// The PID is not the suite's.
     OtherPid = 6,
-    // The data to be sent has no byte or more than 200.
+    /// The data to be sent has no byte or more than 200.
     DataLength = 7,
-    // The number is the last.
+    /// The number is the last.
     NumberSpent = 8,
-    // No data is held.
+    /// No data is held.
     NothingHeld = 9,
-    // The buffer is shorter than what is to be retrieved.
+    /// The buffer is shorter than what is to be retrieved.
     SmallBuffer = 10,
 }
 
 impl Refusal {
-    // A cast under a name of its own: `u8::from` would not say which number it is.
+    /// Its number. A method, since `u8::from` would not say which number it is.
     pub fn number(self) -> u8
         ensures { result ≡ refusal_number self }
     {

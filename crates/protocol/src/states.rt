@@ -4,25 +4,25 @@ ghost use Rattle.protocol.specs.Words.{state_words};
 
 use std::fmt;
 
-// States and substates, after table 1 of the standard.
+/// States and substates, after table 1 of the standard.
 #[derive(Clone, Copy, Debug, PartialEq, Eq)]
 pub enum State {
-    // Ready for a new service.
+    /// Ready for a new service.
     Idle = 0,
-    // Waits for ACT_RES.
+    /// Waits for ACT_RES.
     Select = 1,
-    // Waits for VFY_RES.
+    /// Waits for VFY_RES.
     EstablishedSender = 2,
-    // Waits for VFY_REQ.
+    /// Waits for VFY_REQ.
     EstablishedRecipient = 3,
-    // The shared secret can be retrieved.
+    /// The shared secret can be retrieved.
     ConfirmedSse = 4,
-    // Records can be sent and received.
+    /// Records can be sent and received.
     ConfirmedSch = 5,
 }
 
 impl State {
-    // A cast under a name of its own: `u8::from` would not say which number it is.
+    /// Its number. A method, since `u8::from` would not say which number it is.
     pub fn mark(self) -> u8
         ensures { result ≡ state_mark self }
     {

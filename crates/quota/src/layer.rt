@@ -7,7 +7,7 @@ ghost use Rattle.quota.specs.AllowanceLaws.{limited-formed};
 
 use suite::{Denial, HasMeaning, Layer, Role, Suite};
 
-// A suite with an allowance of further keys.
+/// A suite with an allowance of further keys.
 pub struct Quota<S> {
     below: S,
     // How many keys may still be made.
@@ -15,7 +15,7 @@ pub struct Quota<S> {
 }
 
 impl<S: Suite> Quota<S> {
-    // Puts a quota of k over a suite.
+    /// Puts a quota of k over a suite.
     pub fn new(below: S, k: u32) -> Quota<S>
         ensures meaning { quota_meaning S.meaning result ≡ with_last (S.meaning below) (min (S.meaning below).last ((S.meaning below).newest + k)) }
         ensures below { result.below ≡ below }
@@ -24,7 +24,7 @@ impl<S: Suite> Quota<S> {
         Quota { below, left: k }
     }
 
-    // Takes the layer off, and gives back the suite below.
+    /// Takes the layer off, and gives back the suite below.
     pub fn into_below(self) -> S
         ensures { result ≡ self.below }
     {

@@ -8,7 +8,7 @@ ghost use Rattle.suite.specs.Calls.{agreed, derived, serial_answer, after_making
 use super::suite_trait::{HasMeaning, Suite};
 use super::types::{Denial, KindNumbers};
 
-// A suite over another. What changes its keys goes through it, and all else is asked of the suite below.
+/// A suite over another. What changes its keys goes through it, and all else is asked of the suite below.
 pub trait Layer: HasMeaning {
     type Below: Suite;
 
@@ -17,7 +17,7 @@ pub trait Layer: HasMeaning {
 
     ghost destroyed: { Self → ℕ → Result (Unit {0}) Denial → Self → Type 0 };
 
-    // In all but the last serial a layer means what the suite below it means.
+    /// In all but the last serial a layer means what the suite below it means.
     fn below(&self) -> &Self::Below
         ensures { Self.meaning self.now ≡ with_last (Self.Below.meaning result.now) (Self.meaning self.now).last };
 

@@ -7,20 +7,20 @@ ghost use Rattle.suite.specs.Calls.{offered, agreed, derived, checked, revealed,
 
 use super::types::{Denial, KindNumbers};
 
-// What a suite means. A trait apart from `Suite`, so that a type over a suite can have an invariant that cites it: only one impl may fit
-// the bound of a type, and `Suite` has two, one for a suite with a store and one for every layer.
+/// What a suite means. A trait apart from `Suite`, so that a type over a suite can have an invariant that cites it: only one impl may fit
+/// the bound of a type, and `Suite` has two, one for a suite with a store and one for every layer.
 pub trait HasMeaning {
     // What the suite means now.
     ghost meaning: { Self → Meaning };
 }
 
-// A role comes as a byte, since a byte that is no role has its answer here too: Unfit. What a call writes goes into a lent buffer of
-// fixed memory, with its length as the answer.
+/// A role comes as a byte, since a byte that is no role has its answer here too: Unfit. What a call writes goes into a lent buffer of
+/// fixed memory, with its length as the answer.
 pub trait Suite: HasMeaning {
     // What this kind of suite computes.
     ghost scheme: { Scheme };
 
-    // The numbers of this kind.
+    /// The numbers of this kind.
     fn numbers() -> KindNumbers
         ensures { result ≡ numbers_of scheme };
 
@@ -33,32 +33,32 @@ pub trait Suite: HasMeaning {
     fn is_fit(&self, offer: &[u8]) -> bool
         ensures { result ≡ scheme.fit_of (keyring_of (Self.meaning self.now)) offer.now };
 
-    // Writes the offer of a seed.
+    /// Writes the offer of a seed.
     fn offer(&self, seed: &[u8], out: &mut [u8]) -> Result<usize, Denial>
         ensures answer { result ≡ length_answer (offered scheme (Self.meaning self.now) seed.now (length out.old)) }
         ensures buffer { out.new ≡ written (offered scheme (Self.meaning self.now) seed.now (length out.old)) out.old };
 
-    // Makes a shared secret from one's own seed and the peer's offer, and answers its serial.
+    /// Makes a shared secret from one's own seed and the peer's offer, and answers its serial.
     fn agree(&mut self, seed: &[u8], offer: &[u8], role: u8) -> Result<u32, Denial>
         ensures answer { result ≡ serial_answer (Self.meaning self.old) (agreed scheme (Self.meaning self.old) seed.now offer.now role) }
         ensures after { Self.meaning self.new ≡ after_making (Self.meaning self.old) SharedSecret (agreed scheme (Self.meaning self.old) seed.now offer.now role) };
 
-    // Makes a link key from a live shared secret, and answers its serial.
+    /// Makes a link key from a live shared secret, and answers its serial.
     fn derive(&mut self, key: u32) -> Result<u32, Denial>
         ensures answer { result ≡ serial_answer (Self.meaning self.old) (derived scheme (Self.meaning self.old) key) }
         ensures after { Self.meaning self.new ≡ after_making (Self.meaning self.old) LinkKey (derived scheme (Self.meaning self.old) key) };
 
-    // Writes a shared secret's check value for a role.
+    /// Writes a shared secret's check value for a role.
     fn check(&self, key: u32, role: u8, out: &mut [u8]) -> Result<usize, Denial>
         ensures answer { result ≡ length_answer (checked scheme (Self.meaning self.now) key role (length out.old)) }
         ensures buffer { out.new ≡ written (checked scheme (Self.meaning self.now) key role (length out.old)) out.old };
 
-    // Writes the sixteen bytes of a shared secret.
+    /// Writes the sixteen bytes of a shared secret.
     fn reveal(&self, key: u32, out: &mut [u8]) -> Result<usize, Denial>
         ensures answer { result ≡ length_answer (revealed (Self.meaning self.now) key (length out.old)) }
         ensures buffer { out.new ≡ written (revealed (Self.meaning self.now) key (length out.old)) out.old };
 
-    // Writes the payload that protects the data under a link key.
+    /// Writes the payload that protects the data under a link key.
     fn seal(
         &self,
         key: u32,
@@ -70,8 +70,8 @@ pub trait Suite: HasMeaning {
         ensures answer { result ≡ length_answer (sealed scheme (Self.meaning self.now) key role number plain.now (length out.old)) }
         ensures buffer { out.new ≡ written (sealed scheme (Self.meaning self.now) key role number plain.now (length out.old)) out.old };
 
-    // Answers role, number and data length of a payload and writes the data; none, and nothing written, if it is not good. The three are
-    // a tuple of numbers, as the payload has them and the protocol compares them.
+    /// Answers role, number and data length of a payload and writes the data; none, and nothing written, if it is not good. The three are
+    /// a tuple of numbers, as the payload has them and the protocol compares them.
     fn open(
         &self,
         key: u32,
@@ -81,7 +81,7 @@ pub trait Suite: HasMeaning {
         ensures answer { result ≡ open_answer (opened scheme (Self.meaning self.now) key payload.now (length out.old)) }
         ensures buffer { out.new ≡ open_written (opened scheme (Self.meaning self.now) key payload.now (length out.old)) out.old };
 
-    // Removes one live key.
+    /// Removes one live key.
     fn destroy(&mut self, key: u32) -> Result<(), Denial>
         ensures answer { result ≡ destroy_answer (Self.meaning self.old) key }
         ensures after { Self.meaning self.new ≡ after_destroy (Self.meaning self.old) key };

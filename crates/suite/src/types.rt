@@ -5,7 +5,7 @@ ghost use Rattle.suite.specs.Words.{role_text, kind_text, denial_text};
 use std::error::Error;
 use std::fmt;
 
-// The Sender sent ACT_REQ, the Recipient received it.
+/// The Sender sent ACT_REQ, the Recipient received it.
 #[derive(Clone, Copy, Debug, PartialEq, Eq)]
 pub enum Role {
     Sender = 1,
@@ -13,7 +13,7 @@ pub enum Role {
 }
 
 impl Role {
-    // A cast under a name of its own: `u8::from` would not say which number it is.
+    /// Its number. A method, since `u8::from` would not say which number it is.
     pub fn byte(self) -> u8
         ensures { result ≡ role_byte self }
     {
@@ -55,7 +55,7 @@ pub enum KeyKind {
 }
 
 impl KeyKind {
-    // A cast under a name of its own: `u8::from` would not say which number it is.
+    /// Its number. A method, since `u8::from` would not say which number it is.
     pub fn number(self) -> u8
         ensures { result ≡ kind_number self }
     {
@@ -74,21 +74,21 @@ impl fmt::Display for KeyKind {
     }
 }
 
-// Why a suite denies a call.
+/// Why a suite denies a call.
 #[derive(Clone, Copy, Debug, PartialEq, Eq)]
 pub enum Denial {
-    // S2: the peer's offer is not fit.
+    /// S2: the peer's offer is not fit.
     BadOffer = 2,
-    // S3: two keys are live, or the last serial is used.
+    /// S3: two keys are live, or the last serial is used.
     Spent = 3,
-    // An argument or a buffer outside the limits of the interface.
+    /// An argument or a buffer outside the limits of the interface.
     Unfit = 8,
-    // No live key of that kind has that serial.
+    /// No live key of that kind has that serial.
     Unknown = 9,
 }
 
 impl Denial {
-    // A cast under a name of its own: `u8::from` would not say which number it is.
+    /// Its number. A method, since `u8::from` would not say which number it is.
     pub fn number(self) -> u8
         ensures { result ≡ denial_number self }
     {
@@ -111,16 +111,16 @@ impl fmt::Display for Denial {
 
 impl Error for Denial {}
 
-// What every suite of one kind has in common.
+/// What every suite of one kind has in common.
 #[derive(Clone, Copy, Debug, PartialEq, Eq)]
 pub struct KindNumbers {
-    // The byte that names the kind in ACT_REQ.
+    /// The byte that names the kind in ACT_REQ.
     pub pid: u8,
     pub offer_length: usize,
     pub check_length: usize,
-    // How much longer a payload is than its data.
+    /// How much longer a payload is than its data.
     pub overhead: usize,
-    // The numbers of records run from the first, which no record has, to the last.
+    /// The numbers of records run from the first, which no record has, to the last.
     pub first_number: u32,
     pub last_number: u32,
 }

@@ -5,7 +5,7 @@ use std::marker::PhantomData;
 
 mod calls;
 
-// The root and the keys. It is not let go but closed, so that no live key is lost sight of.
+/// The root and the keys. It is not let go but closed, so that no live key is lost sight of.
 pub struct SuiteOf<K> {
     root: [u8; 16],
     keys: KeyStore,

@@ -9,7 +9,7 @@ use std::mem;
 use suite::{Denial, KeyKind};
 
 impl KeyStore {
-    // A store without a key.
+    /// A store without a key.
     pub fn new() -> KeyStore
         ensures newest { newest_of result ≡ 0 }
         ensures live { keys_of result ≡ [] }
@@ -21,14 +21,14 @@ impl KeyStore {
         }
     }
 
-    // The serial of the key made last.
+    /// The serial of the key made last.
     pub fn newest(&self) -> u32
         ensures { result ≡ newest_of self.now }
     {
         self.newest // 0 before the first
     }
 
-    // The value of the live key of that kind and serial.
+    /// The value of the live key of that kind and serial.
     pub fn value_of(&self, kind: KeyKind, serial: u32) -> Option<&[u8; 16]>
         ensures { option_map (λ x. x.now) result ≡ value_in (keys_of self.now) kind serial }
     {
@@ -43,7 +43,7 @@ impl KeyStore {
         !self.second.is_empty() || self.newest == u32::MAX
     }
 
-    // Keeps a new key, and answers its serial.
+    /// Keeps a new key, and answers its serial.
     pub fn put(&mut self, kind: KeyKind, value: &[u8; 16]) -> Result<u32, Denial>
         ensures answer { result ≡ put_answer self.old }
         ensures newest { newest_of self.new ≡ put_newest self.old }
@@ -63,7 +63,7 @@ impl KeyStore {
         Ok(serial)
     }
 
-    // Removes the live key of that serial, and answers whether there was one, as a set does.
+    /// Removes the live key of that serial, and answers whether there was one, as a set does.
     pub fn remove(&mut self, serial: u32) -> bool
         ensures answer { result ≡ is_live (keys_of self.old) serial }
         ensures newest { newest_of self.new ≡ newest_of self.old }
@@ -79,7 +79,7 @@ impl KeyStore {
         true
     }
 
-    // Removes every live key.
+    /// Removes every live key.
     pub fn clear(&mut self)
         ensures newest { newest_of self.new ≡ newest_of self.old }
         ensures live { keys_of self.new ≡ [] }
@@ -88,7 +88,7 @@ impl KeyStore {
         self.second = Place::empty();
     }
 
-    // Ends the store if no key is live; otherwise it comes back as it was.
+    /// Ends the store if no key is live; otherwise it comes back as it was.
     pub fn end(self) -> Result<(), KeyStore>
         ensures { result ≡ end_answer self }
     {

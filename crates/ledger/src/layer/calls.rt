@@ -13,7 +13,7 @@ use quota::Quota;
 use suite::{Denial, HasMeaning, KeyKind, Layer, Suite};
 
 impl<S: Suite> Ledger<S> {
-    // Puts a ledger over a suite.
+    /// Puts a ledger over a suite.
     pub fn new(below: S) -> Ledger<S>
         ensures meaning { ledger_meaning S.meaning result ≡ with_last (S.meaning below) (min (S.meaning below).last ((S.meaning below).newest + 32)) }
         ensures below { result.below.below ≡ below }
@@ -25,7 +25,7 @@ impl<S: Suite> Ledger<S> {
         }
     }
 
-    // Takes the layer off, and gives back the suite below.
+    /// Takes the layer off, and gives back the suite below.
     pub fn into_below(self) -> S
         ensures { result ≡ self.below.below }
     {
@@ -33,7 +33,7 @@ impl<S: Suite> Ledger<S> {
         below.into_below()
     }
 
-    // All rows, one for each key that was made through the ledger, in the order made: 32 less the keys that its quota still allows.
+    /// All rows, one for each key that was made through the ledger, in the order made: 32 less the keys that its quota still allows.
     pub fn rows(&self) -> &[Row]
         ensures rows { result.now ≡ rows_of self.now }
         ensures count { self.now.below.left + length result.now ≡ 32 }
@@ -42,7 +42,7 @@ impl<S: Suite> Ledger<S> {
         self.table.rows()
     }
 
-    // The row at a place, from 0 on; none at an unused place or past the table.
+    /// The row at a place, from 0 on; none at an unused place or past the table.
     pub fn row(&self, place: usize) -> Option<Row>
         ensures row { result ≡ slice_get (rows_of self.now) place }
         ensures told { IfSome result (TrueOf (ledger_meaning S.meaning self.now).live) }

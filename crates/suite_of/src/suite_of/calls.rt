@@ -17,7 +17,7 @@ use std::marker::PhantomData;
 use suite::{Denial, HasMeaning, KeyKind, KindNumbers, Role, Suite};
 
 impl<K: Kind> SuiteOf<K> {
-    // A suite with a root and no key.
+    /// A suite with a root and no key.
     pub fn new(root: [u8; 16]) -> SuiteOf<K>
         ensures { meaning_of result ≡ record { root = root; last = 4294967295; newest = 0; live = [] } }
     {
@@ -28,7 +28,7 @@ impl<K: Kind> SuiteOf<K> {
         }
     }
 
-    // Ends the suite: destroys the keys that are still live, and hands the root back to its owner.
+    /// Ends the suite: destroys the keys that are still live, and hands the root back to its owner.
     pub fn close(mut self) -> [u8; 16]
         ensures { result ≡ self.root }
     {
