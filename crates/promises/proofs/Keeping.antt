@@ -3,7 +3,7 @@ use Rattle.std.proofs.Common.{◌≡◌, ℕ, ◌≤◌, Bool, true, false, cond
 use Rattle.std.proofs.lemmas.Bool.{cases_Bool}
 use Rattle.std.specs.List.{AllByRecursion}
 use Rattle.suite.specs.declared.types.KeyKind.TheVariants.{LinkKey}
-use Rattle.suite.specs.Meanings.{value_in}
+use Rattle.suite.specs.Meanings.{WellFormed, value_in}
 use Rattle.suite.specs.Schemes.{Scheme, Lawful}
 use Rattle.suite.specs.Calls.{no_room}
 use Rattle.protocol.specs.declared.states.State.{State}
@@ -109,7 +109,14 @@ idle_empty s (at_select b h) e = refl
 idle_empty s (at_secret state k one) e = clash _ (not_idle k) (ap (λ z. eqb (state_mark z) 0) e)
 idle_empty s (at_sch h lo hi) e = absurd (cc)
 
--- nor after it is put away
+-- and no key is named and nothing held: the entity is as at the beginning
+idle_fresh : (s : Scheme) {m : Model} → WellFormed m.means → Sound s m → m.state ≡ Idle → Fresh m
+idle_fresh s f (at_idle b) e = record { formed = f; idle = refl; no_live = refl; no_secret = refl; no_link = refl; none_held = refl }
+idle_fresh s f (at_select b h) e = absurd (cc)
+idle_fresh s f (at_secret state k one) e = clash _ (not_idle k) (ap (λ z. eqb (state_mark z) 0) e)
+idle_fresh s f (at_sch h lo hi) e = absurd (cc)
+
+-- no key is live after it is put away
 none_left : (s : Scheme) {m : Model} → Sound s m → (idle m).means.live ≡ []
 none_left s (at_idle b) = refl
 none_left s (at_select b h) = refl
@@ -167,6 +174,7 @@ kept s law {m} H g o quiet = record {
   };
   told = told s H o quiet;
   suite = asks_well s law H.sound;
+  anew = idle_fresh s (asks_well s law H.sound).formed H.sound;
 }
 
 pub every_run : EveryRun

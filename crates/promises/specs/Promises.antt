@@ -114,6 +114,8 @@ pub record Kept (s : Scheme) (m : Model) (h : History) : Type 0 where
   pub sessions : SessionsKept s m h
   pub told : SessionsTold m h
   pub suite : AsksWell s m
+  -- in Idle the entity is as at the beginning, and a run begins anew
+  pub anew : m.state ≡ Idle → Fresh m
 
 -- for every kind of suite, every fresh entity and every list of calls; so also of the entity that any call of a run is made to
 abbrev pub EveryRun : Type 0

@@ -33,7 +33,8 @@ impl<S: Suite> Ledger<S> {
         below.into_below()
     }
 
-    /// All rows, one for each key that was made through the ledger, in the order made: 32 less the keys that its quota still allows.
+    /// All rows, one for each key made through the ledger, in the order made: they tell of the newest keys of its suite, as many as 32 less
+    /// the keys that its quota still allows.
     pub fn rows(&self) -> &[Row]
         ensures rows { result.now ≡ rows_of self.now }
         ensures count { self.now.below.left + length result.now ≡ 32 }
