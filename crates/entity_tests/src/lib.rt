@@ -1,4 +1,4 @@
-// Entities on worked frames, and in whole exchanges.
+// Entities on worked frames, at the last number, and with a shared secret.
 #![tactic(auto)]
 
 #[cfg(test)]

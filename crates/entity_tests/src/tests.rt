@@ -1,4 +1,3 @@
 mod ends;
-mod exchanges;
 mod limits;
 mod worked;
