@@ -9,18 +9,18 @@ abbrev pub refusal_number : Refusal → ℕ
 refusal_number NotSupported = 11
 
 -- SECi in the Initiator's PPi byte, SECt in the Target's PPt byte: bit 7, counted from 0, ONE where NFC-SEC is supported
-abbrev pub sec : ℕ → Bool
-sec pp = (pp / 128) % 2 == 1
+abbrev pub sec_bit : ℕ → Bool
+sec_bit pp = (pp / 128) % 2 == 1
 
 -- an exchange ends agreed, with both bytes, or refused, with a number and the byte of the offer that comes back
 pub data Answer : Type 0 where
   agreed : (own peer : ℕ) → Answer
   refused : (number own : ℕ) → Answer
 
-abbrev pub exchange : ℕ → ℕ → Answer
-exchange own peer = cond (sec own && sec peer) (agreed own peer) (refused 11 own)
+abbrev pub exchange_answer : ℕ → ℕ → Answer
+exchange_answer own peer = cond (sec_bit own && sec_bit peer) (agreed own peer) (refused 11 own)
 
 -- the code's answer by its numbers
-abbrev pub answer : Result Agreed Refused → Answer
-answer (Ok a) = agreed a.offer.own a.peer
-answer (Err r) = refused (refusal_number r.refusal) r.offer.own
+abbrev pub answer_of : Result Agreed Refused → Answer
+answer_of (Ok a) = agreed a.offer.own a.peer
+answer_of (Err r) = refused (refusal_number r.refusal) r.offer.own

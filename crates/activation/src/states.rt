@@ -1,5 +1,5 @@
 ghost use Rattle.std.specs.Prelude.{◌≡◌, Some};
-ghost use Rattle.activation.specs.Activation.{answer, exchange, refusal_number, sec};
+ghost use Rattle.activation.specs.Activation.{answer_of, exchange_answer, refusal_number, sec_bit};
 ghost use Rattle.activation.specs.Words.{refusal_words};
 
 use std::error::Error;
@@ -34,7 +34,7 @@ pub struct Refused {
 }
 
 fn supports(pp: u8) -> bool
-    ensures { result ≡ sec pp }
+    ensures { result ≡ sec_bit pp }
 {
     pp & SEC != 0
 }
@@ -70,7 +70,7 @@ impl Offered {
 
     /// Takes the peer's byte: the offer becomes an agreed activation, or comes back.
     pub fn agree(self, peer: u8) -> Result<Agreed, Refused>
-        ensures { answer result ≡ exchange self.own peer }
+        ensures { answer_of result ≡ exchange_answer self.own peer }
     {
         if supports(self.own) && supports(peer) {
             Ok(Agreed { offer: self, peer })

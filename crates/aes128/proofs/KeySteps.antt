@@ -8,7 +8,7 @@ use Rattle.aes128.specs.declared.schedule.TheConstants.{RCON}
 use Rattle.aes128.specs.Field.{mul, power_low, sub_byte}
 use Rattle.aes128.specs.Words.{byte_of, word_bytes, word_of}
 use Rattle.aes128.specs.Cipher.{sub_word, rot_word, rcon, next_word, key_words}
-use Rattle.aes128.specs.Fours.{key_after, in_fours}
+use Rattle.aes128.specs.Fours.{key_after, number_in_fours}
 use Rattle.aes128.proofs.RoundKeys.{in_fours_at}
 use Rattle.aes128.proofs.TableRules.{entries}
 use Rattle.aes128.proofs.Words.{bytes_of_word, byte_at}
@@ -41,23 +41,23 @@ rotated r t x e v =
 
 -- the first n words of round keys
 abbrev pub front : List (List ℕ) → ℕ → List ℕ
-front keys n = map (in_fours keys) (range_with_len 0 n)
+front keys n = map (number_in_fours keys) (range_with_len 0 n)
 
 -- the word i of the schedule, from those before it, by its place among four
 abbrev step : ℕ → ℕ → ℕ → Bool → ℕ
 step i far near first = bit_xor far (cond first (bit_xor (sub_word (rot_word near)) (rcon (i / 4))) near)
 
 -- one word more
-more : (keys : List (List ℕ)) (key : List ℕ) (n : ℕ) (first : Bool) → eqb ((n + 4) % 4) 0 ≡ first → in_fours keys (n + 4) ≡ step (n + 4) (in_fours keys n) (in_fours keys (n + 3)) first
+more : (keys : List (List ℕ)) (key : List ℕ) (n : ℕ) (first : Bool) → eqb ((n + 4) % 4) 0 ≡ first → number_in_fours keys (n + 4) ≡ step (n + 4) (number_in_fours keys n) (number_in_fours keys (n + 3)) first
     → front keys (n + 4) ≡ key_words key n → front keys (n + 1 + 4) ≡ key_words key (n + 1)
 unfolding next_word
 more keys key n first b w e =
     let place : n + 1 + 4 ≡ n + 4 + 1 = omega arith in
-    let far : get_or (front keys (n + 4)) (n + 4 - 4) 0 ≡ in_fours keys n = get_or-map-range_with_len (in_fours keys) 0 (n + 4) (n + 4 - 4) n 0 (omega arith) (omega arith) in
-    let near : get_or (front keys (n + 4)) (n + 4 - 1) 0 ≡ in_fours keys (n + 3) = get_or-map-range_with_len (in_fours keys) 0 (n + 4) (n + 4 - 1) (n + 3) 0 (omega arith) (omega arith) in
-    let next : in_fours keys (n + 4) ≡ next_word (n + 4) (front keys (n + 4)) = cc in
+    let far : get_or (front keys (n + 4)) (n + 4 - 4) 0 ≡ number_in_fours keys n = get_or-map-range_with_len (number_in_fours keys) 0 (n + 4) (n + 4 - 4) n 0 (omega arith) (omega arith) in
+    let near : get_or (front keys (n + 4)) (n + 4 - 1) 0 ≡ number_in_fours keys (n + 3) = get_or-map-range_with_len (number_in_fours keys) 0 (n + 4) (n + 4 - 1) (n + 3) 0 (omega arith) (omega arith) in
+    let next : number_in_fours keys (n + 4) ≡ next_word (n + 4) (front keys (n + 4)) = cc in
     ap (front keys) place
-    ∙ (map-range_with_len_more (in_fours keys) 0 (n + 4) (n + 4) (omega arith)
+    ∙ (map-range_with_len_more (number_in_fours keys) 0 (n + 4) (n + 4) (omega arith)
     ∙ (ap (λ (x : ℕ). front keys (n + 4) ++ (x ∷ [])) next
     ∙ (ap (λ (ws : List ℕ). ws ++ (next_word (n + 4) ws ∷ [])) e
     ∙ ap (key_words key) (sym (add-one n)))))
@@ -66,13 +66,13 @@ more keys key n first b w e =
 before : (keys : List (List ℕ)) (i : ℕ) (k : List ℕ) → front (set keys (i + 1) k) (4 * i + 4) ≡ front keys (4 * i + 4)
 before keys i k =
     let ks = set keys (i + 1) k in
-    let same : (j : ℕ) → j < 4 * i + 4 → in_fours ks j ≡ in_fours keys j = λ j h. ap (λ (xs : List ℕ). get_or xs (j % 4) 0) (get_or-set_other keys (i + 1) (j / 4) k [] (λ e. omega arith)) in
-    fill_by_all (in_fours keys) (front ks (4 * i + 4)) (4 * i + 4) 0 (length-map-range_with_len (in_fours ks) 0 (4 * i + 4))
-    (λ j h. get_or-map-range_with_len (in_fours ks) 0 (4 * i + 4) j j 0 h (omega arith) ∙ same j h)
+    let same : (j : ℕ) → j < 4 * i + 4 → number_in_fours ks j ≡ number_in_fours keys j = λ j h. ap (λ (xs : List ℕ). get_or xs (j % 4) 0) (get_or-set_other keys (i + 1) (j / 4) k [] (λ e. omega arith)) in
+    fill_by_all (number_in_fours keys) (front ks (4 * i + 4)) (4 * i + 4) 0 (length-map-range_with_len (number_in_fours ks) 0 (4 * i + 4))
+    (λ j h. get_or-map-range_with_len (number_in_fours ks) 0 (4 * i + 4) j j 0 h (omega arith) ∙ same j h)
 
 -- the number m, where it lies in the list xs
-placed : (xss : List (List ℕ)) (n j m : ℕ) (xs : List ℕ) → j < 4 → m ≡ 4 * n + j → get_or xss n [] ≡ xs → in_fours xss m ≡ get_or xs j 0
-placed xss n j m xs h e f = ap (in_fours xss) e ∙ (in_fours_at xss n j h ∙ ap (λ (ys : List ℕ). get_or ys j 0) f)
+placed : (xss : List (List ℕ)) (n j m : ℕ) (xs : List ℕ) → j < 4 → m ≡ 4 * n + j → get_or xss n [] ≡ xs → number_in_fours xss m ≡ get_or xs j 0
+placed xss n j m xs h e f = ap (number_in_fours xss) e ∙ (in_fours_at xss n j h ∙ ap (λ (ys : List ℕ). get_or ys j 0) f)
 
 -- one round key more
 pub next_key : (keys : List (List ℕ)) (key : List ℕ) (i : ℕ) (k : List ℕ) → i + 1 < length keys → k ≡ key_after (get_or keys i []) (rcon (i + 1))
@@ -99,10 +99,10 @@ next_key keys key i k h e f =
     let w2 : get_or k 2 0 ≡ bit_xor (get_or a 2 0) (get_or k 1 0) = ap (λ (l : List ℕ). get_or l 2 0) e ∙ ap (bit_xor (get_or a 2 0)) (sym (ap (λ (l : List ℕ). get_or l 1 0) e)) in
     let w3 : get_or k 3 0 ≡ bit_xor (get_or a 3 0) (get_or k 2 0) = ap (λ (l : List ℕ). get_or l 3 0) e ∙ ap (bit_xor (get_or a 3 0)) (sym (ap (λ (l : List ℕ). get_or l 2 0) e)) in
     let round : (4 * i + 4) / 4 ≡ i + 1 = omega arith in
-    let s0 : in_fours ks (4 * i + 4) ≡ step (4 * i + 4) (in_fours ks (4 * i)) (in_fours ks (4 * i + 3)) true = cc in
-    let s1 : in_fours ks (4 * i + 1 + 4) ≡ step (4 * i + 1 + 4) (in_fours ks (4 * i + 1)) (in_fours ks (4 * i + 1 + 3)) false = cc in
-    let s2 : in_fours ks (4 * i + 1 + 1 + 4) ≡ step (4 * i + 1 + 1 + 4) (in_fours ks (4 * i + 1 + 1)) (in_fours ks (4 * i + 1 + 1 + 3)) false = cc in
-    let s3 : in_fours ks (4 * i + 1 + 1 + 1 + 4) ≡ step (4 * i + 1 + 1 + 1 + 4) (in_fours ks (4 * i + 1 + 1 + 1)) (in_fours ks (4 * i + 1 + 1 + 1 + 3)) false = cc in
+    let s0 : number_in_fours ks (4 * i + 4) ≡ step (4 * i + 4) (number_in_fours ks (4 * i)) (number_in_fours ks (4 * i + 3)) true = cc in
+    let s1 : number_in_fours ks (4 * i + 1 + 4) ≡ step (4 * i + 1 + 4) (number_in_fours ks (4 * i + 1)) (number_in_fours ks (4 * i + 1 + 3)) false = cc in
+    let s2 : number_in_fours ks (4 * i + 1 + 1 + 4) ≡ step (4 * i + 1 + 1 + 4) (number_in_fours ks (4 * i + 1 + 1)) (number_in_fours ks (4 * i + 1 + 1 + 3)) false = cc in
+    let s3 : number_in_fours ks (4 * i + 1 + 1 + 1 + 4) ≡ step (4 * i + 1 + 1 + 1 + 4) (number_in_fours ks (4 * i + 1 + 1 + 1)) (number_in_fours ks (4 * i + 1 + 1 + 1 + 3)) false = cc in
     let f0 = before keys i k ∙ f in
     let f1 = more ks key (4 * i) true (eq-eqb ((4 * i + 4) % 4) 0 (omega arith)) s0 f0 in
     let f2 = more ks key (4 * i + 1) false (ne_eqb ((4 * i + 1 + 4) % 4) 0 (λ x. omega arith)) s1 f1 in

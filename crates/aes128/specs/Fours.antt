@@ -12,13 +12,13 @@ key_after key c =
     w0 ∷ w1 ∷ w2 ∷ bit_xor (slice_index key 3) w2 ∷ []
 
 -- the number i of numbers that lie in lists of four
-abbrev pub in_fours : List (List ℕ) → ℕ → ℕ
-in_fours xss i = slice_index (slice_index_or xss (i / 4) []) (i % 4)
+abbrev pub number_in_fours : List (List ℕ) → ℕ → ℕ
+number_in_fours xss i = slice_index (slice_index_or xss (i / 4) []) (i % 4)
 
 -- the state that four columns hold
-abbrev pub state_by : List (List ℕ) → List ℕ
-state_by columns = block (in_fours columns)
+abbrev pub state_of_columns : List (List ℕ) → List ℕ
+state_of_columns columns = block (number_in_fours columns)
 
 -- the words of eleven round keys
-unfoldable pub words_by : List (List ℕ) → List ℕ
-words_by keys = map (in_fours keys) (range_with_len 0 44)
+unfoldable pub words_of_round_keys : List (List ℕ) → List ℕ
+words_of_round_keys keys = map (number_in_fours keys) (range_with_len 0 44)

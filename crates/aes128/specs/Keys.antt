@@ -1,7 +1,7 @@
 -- The words of an expanded key.
 use Rattle.std.specs.Prelude.{ℕ, List}
 use Rattle.aes128.specs.declared.Aes128.{Aes128}
-use Rattle.aes128.specs.Fours.{words_by}
+use Rattle.aes128.specs.Fours.{words_of_round_keys}
 
 abbrev pub words_of : Aes128 → List ℕ
-words_of a = words_by a.keys
+words_of a = words_of_round_keys a.keys

@@ -3,7 +3,7 @@ ghost use Rattle.std.specs.Prelude.{◌≡◌, [], ◌∷◌, slice_index};
 ghost use Rattle.aes128.specs.Field.{sub_byte};
 ghost use Rattle.aes128.specs.Words.{word_bytes, word_of};
 ghost use Rattle.aes128.specs.Cipher.{block as block_by, mix_column, sub_bytes, shift_rows, mix_columns, add_round_key, key_words, state_of, cipher_with};
-ghost use Rattle.aes128.specs.Fours.{state_by, words_by};
+ghost use Rattle.aes128.specs.Fours.{state_of_columns, words_of_round_keys};
 
 use super::tables::{mixed, sbox};
 
@@ -22,7 +22,7 @@ pub(super) fn words(block: &[u8; 16]) -> [u32; 4]
 
 // The columns of a state, byte by byte.
 fn columns(s: [u32; 4]) -> [[u8; 4]; 4]
-    ensures { state_by result ≡ state_of s }
+    ensures { state_of_columns result ≡ state_of s }
 {
     let [a, b, c, d] = s;
     [
@@ -50,7 +50,7 @@ fn state_bytes(s: [u32; 4]) -> [u8; 16]
 
 // The columns after ShiftRows.
 fn shifted(s: [u32; 4]) -> [[u8; 4]; 4]
-    ensures { state_by result ≡ shift_rows (state_of s) }
+    ensures { state_of_columns result ≡ shift_rows (state_of s) }
 {
     let [
         [c00, c01, c02, c03],
@@ -93,14 +93,14 @@ fn add_round_key(key: &[u32; 4], s: [u32; 4]) -> [u32; 4]
 
 // SubBytes at every column.
 fn sub_columns(columns: [[u8; 4]; 4]) -> [u32; 4]
-    ensures { state_of result ≡ sub_bytes (state_by columns) }
+    ensures { state_of result ≡ sub_bytes (state_of_columns columns) }
 {
     columns.map(sub_column)
 }
 
 // SubBytes and MixColumns at every column.
 fn mixed_columns(columns: [[u8; 4]; 4]) -> [u32; 4]
-    ensures { state_of result ≡ mix_columns (sub_bytes (state_by columns)) }
+    ensures { state_of result ≡ mix_columns (sub_bytes (state_of_columns columns)) }
 {
     columns.map(mixed_column)
 }
@@ -108,7 +108,7 @@ fn mixed_columns(columns: [[u8; 4]; 4]) -> [u32; 4]
 // One block, under a key that is expanded. Each round begins with its key: where it ends with the next one, the compiler makes vectors
 // of the state, which takes a third longer. Keys by their places: a pattern of a lent array of arrays is not covered by the check.
 pub(super) fn encrypt_with(keys: &[[u32; 4]; 11], input: &[u8; 16]) -> [u8; 16]
-    ensures { result ≡ cipher_with (words_by keys.now) input.now }
+    ensures { result ≡ cipher_with (words_of_round_keys keys.now) input.now }
 {
     let mut s = words(input);
     for key in &keys[..9] {

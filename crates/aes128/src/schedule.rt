@@ -1,7 +1,7 @@
 // The key expansion.
 ghost use Rattle.std.specs.Prelude.{◌≡◌};
 ghost use Rattle.aes128.specs.Cipher.{sub_word, rot_word, schedule};
-ghost use Rattle.aes128.specs.Fours.{key_after, words_by};
+ghost use Rattle.aes128.specs.Fours.{key_after, words_of_round_keys};
 
 use super::rounds::{sub_column, words};
 
@@ -39,7 +39,7 @@ fn next_key(key: &[u32; 4], rcon: u32) -> [u32; 4]
 
 // The key schedule, each key from the one before it. By places: no proof knows what is written through an adapter of `iter_mut`.
 pub(super) fn expand_key(key: &[u8; 16]) -> [[u32; 4]; 11]
-    ensures { words_by result ≡ schedule key.now }
+    ensures { words_of_round_keys result ≡ schedule key.now }
 {
     let mut keys = [words(key); 11];
     for (i, rcon) in RCON.iter().enumerate() {

@@ -1,3 +1,3 @@
 pub mod Benches
-pub mod BenchLaws
-pub mod Xors
+pub mod BenchProofs
+pub mod XorProofs

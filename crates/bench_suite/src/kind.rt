@@ -1,6 +1,6 @@
 ghost use Rattle.std.specs.Prelude.{◌≡◌};
 ghost use Rattle.bench_suite.specs.Benches.{bench_functions};
-ghost use Rattle.bench_suite.specs.BenchLaws.{bench_sound};
+ghost use Rattle.bench_suite.specs.BenchProofs.{bench_lawful};
 
 use super::sums::sum_byte;
 use std::array;
@@ -25,7 +25,7 @@ pub type Bench = SuiteOf<BenchKind>;
 impl Kind for BenchKind {
     ghost functions = { bench_functions };
 
-    ghost sound = { bench_sound };
+    ghost sound = { bench_lawful };
 
     fn numbers() -> KindNumbers {
         NUMBERS

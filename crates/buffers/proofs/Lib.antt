@@ -1,1 +1,1 @@
-pub mod OverLaws
+pub mod FrontLaws

@@ -9,8 +9,8 @@ use Rattle.protocol.specs.declared.outcomes.Outcome.{Outcome}
 use Rattle.protocol.specs.declared.faults.Fault.{Fault}
 use Rattle.protocol.specs.Numbers.{state_mark, confirmation_number, refusal_number, cause_code}
 use Rattle.protocol.specs.Outcomes.{no_keys}
-use Rattle.protocol.specs.Models.{Model, Ancillary, fresh, no_seed}
-use Rattle.protocol.specs.Calls.{Turn, Call, invoke, send, retrieve_data, frame, turn}
+use Rattle.protocol.specs.Models.{Model, Ancillary, new_model, no_seed}
+use Rattle.protocol.specs.Calls.{CallEffect, Call, invoke, send, retrieve_data, frame, call_effect}
 
 -- What an answer says.
 
@@ -25,12 +25,12 @@ refusal (Ok o) = 0
 refusal (Err r) = refusal_number r
 
 -- a fault: its code, the number of the state that it is met in, and the code of the message
-abbrev pub told : Option Fault → Option (FaultCode × ℕ × ℕ)
-told None = None
-told (Some f) = Some (cause_code f.machine.cause, state_mark f.machine.state, f.message)
+abbrev pub fault_parts : Option Fault → Option (FaultCode × ℕ × ℕ)
+fault_parts None = None
+fault_parts (Some f) = Some (cause_code f.machine.cause, state_mark f.machine.state, f.message)
 
 abbrev pub fault : Result Outcome Refusal → Option (FaultCode × ℕ × ℕ)
-fault (Ok o) = told o.fault
+fault (Ok o) = fault_parts o.fault
 fault (Err r) = None
 
 -- the keys that it reports destroyed
@@ -48,70 +48,70 @@ twos = replicate 16 2
 
 -- a new entity whose root is zeros, over a suite that has made no key, and makes this many
 abbrev pub entity : ℕ → Model
-entity last = fresh (record { root = replicate 16 0; last = last; newest = 0; live = [] })
+entity last = new_model (record { root = replicate 16 0; last = last; newest = 0; live = [] })
 
 abbrev pub new : Model
 new = entity 4294967295
 
-abbrev pub call : Model → Call → Turn
-call m c = turn bench_scheme m c
+abbrev pub call : Model → Call → CallEffect
+call m c = call_effect bench_scheme m c
 
 -- what goes beside a frame
 abbrev pub beside : List ℕ → Ancillary
 beside seed = record { seed = seed }
 
 -- a frame, with a seed of zeros
-abbrev pub hears : Model → List ℕ → Turn
-hears m bytes = call m (frame bytes (beside no_seed) 255)
+abbrev pub after_frame : Model → List ℕ → CallEffect
+after_frame m bytes = call m (frame bytes (beside no_seed) 255)
 
 -- An activation for SCH, call by call: the Sender's and the Recipient's.
 
-abbrev pub act_req : Turn
+abbrev pub act_req : CallEffect
 act_req = call new (invoke Sch 0xF0 ones 255)
 
-abbrev pub act_res : Turn
+abbrev pub act_res : CallEffect
 act_res = call new (frame act_req.reply (beside twos) 255)
 
-abbrev pub vfy_req : Turn
-vfy_req = hears act_req.model act_res.reply
+abbrev pub vfy_req : CallEffect
+vfy_req = after_frame act_req.model act_res.reply
 
-abbrev pub vfy_res : Turn
-vfy_res = hears act_res.model vfy_req.reply
+abbrev pub vfy_res : CallEffect
+vfy_res = after_frame act_res.model vfy_req.reply
 
-abbrev pub linked : Turn
-linked = hears vfy_req.model vfy_res.reply
+abbrev pub sender_confirmed : CallEffect
+sender_confirmed = after_frame vfy_req.model vfy_res.reply
 
 -- Records: the Sender's first, the same frame before and after its data are retrieved, and the Recipient's answer.
 
-abbrev pub sent : Turn
-sent = call linked.model (send (0x41 ∷ 0x42 ∷ []) 255)
+abbrev pub sent : CallEffect
+sent = call sender_confirmed.model (send (0x41 ∷ 0x42 ∷ []) 255)
 
-abbrev pub received : Turn
-received = hears vfy_res.model sent.reply
+abbrev pub received : CallEffect
+received = after_frame vfy_res.model sent.reply
 
-abbrev pub repeated : Turn
-repeated = hears received.model sent.reply
+abbrev pub repeated : CallEffect
+repeated = after_frame received.model sent.reply
 
-abbrev pub retrieved : Turn
+abbrev pub retrieved : CallEffect
 retrieved = call received.model (retrieve_data 255)
 
-abbrev pub dropped : Turn
-dropped = hears retrieved.model sent.reply
+abbrev pub dropped : CallEffect
+dropped = after_frame retrieved.model sent.reply
 
-abbrev pub answered : Turn
+abbrev pub answered : CallEffect
 answered = call dropped.model (send (0x43 ∷ []) 255)
 
 -- a record sent where the newest has this number
-abbrev pub sent_at : ℕ → Turn
-sent_at number = call (record linked.model { number = number }) (send (0x41 ∷ []) 255)
+abbrev pub sent_at : ℕ → CallEffect
+sent_at number = call (record sender_confirmed.model { number = number }) (send (0x41 ∷ []) 255)
 
 -- A Recipient whose suite makes one key, and so no link key.
 
-abbrev pub lone : Turn
-lone = call (entity 1) (frame act_req.reply (beside twos) 255)
+abbrev pub recipient_of_one_key : CallEffect
+recipient_of_one_key = call (entity 1) (frame act_req.reply (beside twos) 255)
 
-abbrev pub keyless : Turn
-keyless = hears lone.model vfy_req.reply
+abbrev pub keyless : CallEffect
+keyless = after_frame recipient_of_one_key.model vfy_req.reply
 
 pub record Cases : Type 0 where
   -- the activation: what is written, and that both confirm it
@@ -120,7 +120,7 @@ pub record Cases : Type 0 where
   pub vfy_req_bytes : vfy_req.reply ≡ 0x12 ∷ 0x01 ∷ 0x03 ∷ 0x03 ∷ 0x03 ∷ []
   pub vfy_res_bytes : vfy_res.reply ≡ 0x13 ∷ 0x02 ∷ 0x03 ∷ 0x03 ∷ 0x03 ∷ []
   pub recipient_linked : confirmation vfy_res.answer ≡ 1
-  pub sender_linked : confirmation linked.answer ≡ 1
+  pub sender_linked : confirmation sender_confirmed.answer ≡ 1
   -- a record: sent, and available
   pub sent_bytes : sent.reply ≡ 0x14 ∷ 0x01 ∷ 0x00 ∷ 0x00 ∷ 0x00 ∷ 0x01 ∷ 0x18 ∷ 0x1B ∷ 0x35 ∷ []
   pub sent_confirmed : confirmation sent.answer ≡ 2
@@ -132,9 +132,9 @@ pub record Cases : Type 0 where
   -- the Recipient's record has the next number
   pub answered_bytes : answered.reply ≡ 0x14 ∷ 0x02 ∷ 0x00 ∷ 0x00 ∷ 0x00 ∷ 0x02 ∷ 0x1A ∷ 0x1E ∷ []
   -- in Idle: ENC is M1, in the frame's service; the service bits 10 are C2, in SSE; a TMN with payload is C4
-  pub early_reply : (hears new (0x14 ∷ [])).reply ≡ 0x1F ∷ 0x4D ∷ 0x31 ∷ 0x00 ∷ []
-  pub strange_reply : (hears new (0x20 ∷ [])).reply ≡ 0x0F ∷ 0x43 ∷ 0x32 ∷ 0x00 ∷ []
-  pub long_fault : fault (hears new (0x16 ∷ 0x00 ∷ [])).answer ≡ Some (record { letter = 0x43; digit = 0x34; place = 1 }, 0, 6)
+  pub early_reply : (after_frame new (0x14 ∷ [])).reply ≡ 0x1F ∷ 0x4D ∷ 0x31 ∷ 0x00 ∷ []
+  pub strange_reply : (after_frame new (0x20 ∷ [])).reply ≡ 0x0F ∷ 0x43 ∷ 0x32 ∷ 0x00 ∷ []
+  pub long_fault : fault (after_frame new (0x16 ∷ 0x00 ∷ [])).answer ≡ Some (record { letter = 0x43; digit = 0x34; place = 1 }, 0, 6)
   -- the last number is 65535
   pub last_sent : confirmation (sent_at 65534).answer ≡ 2
   pub none_sent : refusal (sent_at 65535).answer ≡ 8

@@ -38,22 +38,22 @@ unfoldable pub padding : List ℕ → List ℕ
 padding m = block (λ k. pad_byte m k)
 
 -- the chaining value after n blocks
-abbrev pub chain : List ℕ → List ℕ → ℕ → List ℕ
-chain ws m zero = zeros
-chain ws m (suc n) = cipher_with ws (xor_block (chain ws m n) (block_at m (16 * n)))
+abbrev pub chain_value : List ℕ → List ℕ → ℕ → List ℕ
+chain_value ws m zero = zeros
+chain_value ws m (suc n) = cipher_with ws (xor_block (chain_value ws m n) (block_at m (16 * n)))
 
 -- the number of blocks before the last
-abbrev pub before : List ℕ → ℕ
-before m = (length m - 1) / 16
+abbrev pub blocks_before_last : List ℕ → ℕ
+blocks_before_last m = (length m - 1) / 16
 
 -- the last block, whole or padded, with its subkey
 unfoldable pub last_block : List ℕ → List ℕ → List ℕ
 last_block ws m =
-    let p = 16 * before m in
+    let p = 16 * blocks_before_last m in
     cond (p + 16 == length m) (xor_block (block_at m p) (subkey1 ws)) (xor_block (padding (drop p m)) (subkey2 ws))
 
 unfoldable pub cmac_with : List ℕ → List ℕ → List ℕ
-cmac_with ws m = cipher_with ws (xor_block (last_block ws m) (chain ws m (before m)))
+cmac_with ws m = cipher_with ws (xor_block (last_block ws m) (chain_value ws m (blocks_before_last m)))
 
 abbrev pub cmac : List ℕ → List ℕ → List ℕ
 cmac key m = cmac_with (schedule key) m

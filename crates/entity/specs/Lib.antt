@@ -1,3 +1,3 @@
-pub mod Called
-pub mod Results
+pub mod CallViews
+pub mod ResultViews
 pub mod Views

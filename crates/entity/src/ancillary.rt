@@ -1,8 +1,8 @@
 ghost use Rattle.std.specs.Prelude.{◌≡◌, cond, Ok, Err};
 ghost use Rattle.std.specs.Result.{result_map_both};
-ghost use Rattle.suite.specs.Calls.{wrong_seed};
+ghost use Rattle.suite.specs.Calls.{is_wrong_seed};
 ghost use Rattle.protocol.specs.declared.refusals.Refusal.TheVariants.{SeedLength};
-ghost use Rattle.entity.specs.Called.{brought, fitted};
+ghost use Rattle.entity.specs.CallViews.{ancillary_of, fitted_ancillary};
 
 use crate::bytes::sixteen;
 use protocol::Refusal;
@@ -23,7 +23,7 @@ pub(crate) struct Fitted<'a> {
 impl<'a> Ancillary<'a> {
     // What is brought, if it fits.
     pub(crate) fn fit(self) -> Result<Fitted<'a>, Refusal>
-        ensures { result_map_both fitted (λ e. e) result ≡ cond (wrong_seed self.entry.seed.now) (Err SeedLength) (Ok (brought self.entry)) }
+        ensures { result_map_both fitted_ancillary (λ e. e) result ≡ cond (is_wrong_seed self.entry.seed.now) (Err SeedLength) (Ok (ancillary_of self.entry)) }
     {
         Ok(Fitted {
             seed: sixteen(self.seed)?,

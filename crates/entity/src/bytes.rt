@@ -1,18 +1,18 @@
 ghost use Rattle.std.specs.Prelude.{◌≡◌, ◌≤◌, false, cond, length, replicate, Ok, Err};
 ghost use Rattle.std.specs.Result.{result_map_both};
-ghost use Rattle.buffers.specs.Buffers.{over};
-ghost use Rattle.frame.specs.Frames.{said_by as says};
-ghost use Rattle.frame.specs.Writing.{laden};
-ghost use Rattle.suite.specs.Calls.{no_room, wrong_seed};
+ghost use Rattle.buffers.specs.Buffers.{with_front};
+ghost use Rattle.frame.specs.Frames.{contents_of};
+ghost use Rattle.frame.specs.Writing.{is_tmn_with_payload};
+ghost use Rattle.suite.specs.Calls.{is_short_buffer, is_wrong_seed};
 ghost use Rattle.protocol.specs.declared.refusals.Refusal.TheVariants.{ReplyBuffer, SeedLength};
-ghost use Rattle.protocol.specs.Steps.{said_by};
+ghost use Rattle.protocol.specs.Steps.{frame_bytes};
 
 use frame::{Body, MAX_FRAME, Message, Service, write};
 use protocol::Refusal;
 
 // A reply buffer takes any frame.
 pub(crate) fn has_room(reply: &[u8]) -> Result<(), Refusal>
-    ensures { result ≡ cond (no_room (length reply.now)) (Err ReplyBuffer) (Ok tt) }
+    ensures { result ≡ cond (is_short_buffer (length reply.now)) (Err ReplyBuffer) (Ok tt) }
 {
     if reply.len() < MAX_FRAME {
         return Err(Refusal::ReplyBuffer);
@@ -21,7 +21,7 @@ pub(crate) fn has_room(reply: &[u8]) -> Result<(), Refusal>
 }
 
 pub(crate) fn sixteen(seed: &[u8]) -> Result<&[u8; 16], Refusal>
-    ensures { result_map_both (λ x. x.now) (λ e. e) result ≡ cond (wrong_seed seed.now) (Err SeedLength) (Ok seed.now) }
+    ensures { result_map_both (λ x. x.now) (λ e. e) result ≡ cond (is_wrong_seed seed.now) (Err SeedLength) (Ok seed.now) }
 {
     seed.as_array::<16>().ok_or(Refusal::SeedLength)
 }
@@ -30,7 +30,7 @@ pub(crate) fn sixteen(seed: &[u8]) -> Result<&[u8; 16], Refusal>
 pub(crate) fn write_front(bytes: &[u8], out: &mut [u8]) -> usize
     requires { length bytes.now ≤ length out.old }
     ensures answer { result ≡ length bytes.now }
-    ensures buffer { out.new ≡ over bytes.now out.old }
+    ensures buffer { out.new ≡ with_front bytes.now out.old }
 {
     out[..bytes.len()].copy_from_slice(bytes);
     bytes.len()
@@ -39,11 +39,11 @@ pub(crate) fn write_front(bytes: &[u8], out: &mut [u8]) -> usize
 // Writes a message to the front of a buffer that takes any frame, and answers its length.
 pub(crate) fn put(service: Service, body: Body<'_>, reply: &mut [u8]) -> usize
     requires room { 255 ≤ length reply.old }
-    requires short { length (said_by service (says body)) ≤ 255 }
-    requires plain { laden (says body) ≡ false }
-    ensures answer { result ≡ length (said_by service (says body.entry)) }
+    requires short { length (frame_bytes service (contents_of body)) ≤ 255 }
+    requires plain { is_tmn_with_payload (contents_of body) ≡ false }
+    ensures answer { result ≡ length (frame_bytes service (contents_of body.entry)) }
     ensures within { result ≤ 255 }
-    ensures buffer { reply.new ≡ over (said_by service (says body.entry)) reply.old }
+    ensures buffer { reply.new ≡ with_front (frame_bytes service (contents_of body.entry)) reply.old }
 {
     write(&Message { service, body }, reply).unwrap()
 }

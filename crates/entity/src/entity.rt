@@ -1,5 +1,5 @@
 ghost use Rattle.std.specs.Prelude.{◌≡◌, ℕ, ◌<◌, length, slice_index};
-ghost use Rattle.protocol.specs.Models.{KeysLive};
+ghost use Rattle.protocol.specs.Models.{HasLiveKeys};
 
 use crate::held::Held;
 use frame::Service;
@@ -34,5 +34,5 @@ pub struct Entity<S: HasMeaning> {
     link: u32,
     ghost long: { length seed ≡ 16 },
     ghost bytes: { ((i : ℕ) → slice_index seed i < 256) },
-    ghost keys: { KeysLive (S.meaning suite) state secret link },
+    ghost keys: { HasLiveKeys (S.meaning suite) state secret link },
 }

@@ -6,16 +6,16 @@ use Rattle.suite.specs.declared.types.Role.{Role}
 use Rattle.suite.specs.declared.types.Role.TheVariants.{Sender, Recipient}
 use Rattle.suite.specs.declared.types.KeyKind.TheVariants.{LinkKey}
 use Rattle.suite.specs.Numbers.{role_byte}
-use Rattle.suite.specs.Meanings.{Meaning, Keyring, keyring_of, Bytes, Bytes16}
-use Rattle.suite.specs.Schemes.{Scheme, Lawful, Sealable}
+use Rattle.suite.specs.Meanings.{Meaning, Keyring, keyring_of, IsBytes, IsBytes16}
+use Rattle.suite.specs.Schemes.{Scheme, IsLawful, IsSealable}
 use Rattle.protocol.specs.declared.outcomes.Confirmation.TheVariants as conf
-use Rattle.protocol.specs.Models.{Model, fresh}
-use Rattle.protocol.specs.Steps.{said_by}
-use Rattle.protocol.specs.Calls.{Call, GivenBytes, send, retrieve_data, frame, Turn, turn}
-use Rattle.histories.specs.Histories.{History, entered, after, goes_on, confirms, answers, sent, handed}
-use Rattle.histories.specs.Sessions.{encs, In}
-use Rattle.exchanges.specs.Duos.{End, Duo, next_beside, next_room, next_out, called, last_answer, last_written, hears, Line, here, there, turned, sends, passed, talked, said_here, said_there}
-use Rattle.exchanges.specs.Exchanges.{opposite, InLink, Matched, Fit, AllFit, HandedOver, RecordsPass, RecordPasses, calls_in, IsRun}
+use Rattle.protocol.specs.Models.{Model, new_model}
+use Rattle.protocol.specs.Steps.{frame_bytes}
+use Rattle.protocol.specs.Calls.{Call, IsGivenBytes, send, retrieve_data, frame, CallEffect, call_effect}
+use Rattle.histories.specs.Histories.{History, entry_of, entity_after, goes_on, has_confirmation, is_answered, data_sent, data_handed}
+use Rattle.histories.specs.Sessions.{encs_sent, IsMember}
+use Rattle.exchanges.specs.Peers.{Peer, Peers, next_beside, next_room, next_out, after_call, last_answer, last_written, after_frame, Transfer, from_one, from_other, swapped_peers, after_send, after_transfer, after_transfers, data_from_one, data_from_other}
+use Rattle.exchanges.specs.Exchanges.{other_role, IsInLink, IsMatched, IsRecordData, AllRecordData, HandsOver, RecordsPass, RecordPasses, calls_in, IsRun}
 use Rattle.suite.proofs.CallLaws.{role_ok}
 use Rattle.suite.proofs.KeyLaws.{value_formed}
 use Rattle.exchanges.proofs.Turns.{stepped, send_is, hear_is, data_is}
@@ -32,22 +32,22 @@ pub same_after : {m m' m'' : Model} → SameKeys m m' → SameKeys m' m'' → Sa
 same_after a b = record { means = b.means ∙ a.means; secret = b.secret ∙ a.secret; link = b.link ∙ a.link }
 
 -- one more call of a run
-pub run_called : (s : Scheme) (means : Meaning) {e : End} (c : Call) → GivenBytes c → IsRun s means e → IsRun s means (called s e c)
+pub run_called : (s : Scheme) (means : Meaning) {e : Peer} (c : Call) → IsGivenBytes c → IsRun s means e → IsRun s means (after_call s e c)
 run_called s means {e} c given r = record {
   bytes = (given, r.bytes);
-  model = ap (λ z. (turn s z c).model) r.model;
+  model = ap (λ z. (call_effect s z c).model) r.model;
   past =
-      ap (λ z. entered c (turn s z c) ∷ e.past) r.model
-      ∙ ap (λ z. entered c (turn s (after s (fresh means) (calls_in e.past)) c) ∷ z) r.past;
+      ap (λ z. entry_of c (call_effect s z c) ∷ e.past) r.model
+      ∙ ap (λ z. entry_of c (call_effect s (entity_after s (new_model means) (calls_in e.past)) c) ∷ z) r.past;
 }
 
 -- the call by which these bytes are passed on to an end
-abbrev pub hearing : End → List ℕ → Call
+abbrev pub hearing : Peer → List ℕ → Call
 hearing to bytes = frame bytes (next_beside to) (next_room to)
 
 -- so that it stays a run
-pub run_hears : (s : Scheme) (means : Meaning) {to : End} (from : End) → Bytes (last_written from.past) → IsRun s means to
-    → IsRun s means (hears s to from)
+pub run_hears : (s : Scheme) (means : Meaning) {to : Peer} (from : Peer) → IsBytes (last_written from.past) → IsRun s means to
+    → IsRun s means (after_frame s to from)
 run_hears s means {to} from b r = run_called s means (hearing to (last_written from.past)) (b, (to.supply.seeds (length to.past)).bytes) r
 
 -- One record.
@@ -58,21 +58,21 @@ earlier [] = []
 earlier (e ∷ h) = h
 
 -- between d and e this was sent and handed over
-record Passed (value : List ℕ) (number : ℕ) (d : Duo) (plain : List ℕ) (e : Duo) : Type 0 where
-  matched : Matched value (number + 1) e
-  over : HandedOver d e (here plain ∷ [])
-  confirmed : confirms 2 (last_answer e.one.past) ≡ true
-  available : confirms 3 (last_answer (earlier e.other.past)) ≡ true
-  retrieved : answers (last_answer e.other.past) ≡ true
+record Passed (value : List ℕ) (number : ℕ) (d : Peers) (plain : List ℕ) (e : Peers) : Type 0 where
+  matched : IsMatched value (number + 1) e
+  over : HandsOver d e (from_one plain ∷ [])
+  confirmed : has_confirmation 2 (last_answer e.one.past) ≡ true
+  available : has_confirmation 3 (last_answer (earlier e.other.past)) ≡ true
+  retrieved : is_answered (last_answer e.other.past) ≡ true
   exactly : last_written e.other.past ≡ plain
   joint : Joint d → Joint e
-  bytes : Bytes (last_written e.one.past)
+  bytes : IsBytes (last_written e.one.past)
   mine_keys : SameKeys d.one.model e.one.model
   their_keys : SameKeys d.other.model e.other.model
 
 -- an entity in a link session, at another number with nothing held
-moved : {value : List ℕ} {m : Model} (number : ℕ) {held : List ℕ} → held ≡ [] → InLink value m
-    → InLink value (record m { number = number; held = held })
+moved : {value : List ℕ} {m : Model} (number : ℕ) {held : List ℕ} → held ≡ [] → IsInLink value m
+    → IsInLink value (record m { number = number; held = held })
 moved number none i = record {
   formed = i.formed;
   confirmed = record { state = i.confirmed.state; service = i.confirmed.service };
@@ -81,11 +81,11 @@ moved number none i = record {
 }
 
 -- the other role is another
-opposite_differs : (r : Role) → eqb (role_byte r) (role_byte (opposite r)) ≡ false
+opposite_differs : (r : Role) → eqb (role_byte r) (role_byte (other_role r)) ≡ false
 opposite_differs Sender = refl
 opposite_differs Recipient = refl
 
-module _ (s : Scheme) (law : Lawful s) (value : List ℕ) (number : ℕ) (d : Duo) (M : Matched value number d) (plain : List ℕ) (fit : Fit plain)
+module _ (s : Scheme) (law : IsLawful s) (value : List ℕ) (number : ℕ) (d : Peers) (M : IsMatched value number d) (plain : List ℕ) (fit : IsRecordData plain)
     (low : s.first ≤ number) (below : number < s.final) where
   -- the two, and what the one seals
 
@@ -105,11 +105,11 @@ module _ (s : Scheme) (law : Lawful s) (value : List ℕ) (number : ℕ) (d : Du
   payload = s.seal_of mine_ring sender.link value role (sender.number + 1) plain
 
   -- the link key has sixteen bytes
-  value16 : Bytes16 value
+  value16 : IsBytes16 value
   value16 = value_formed mine_ring LinkKey sender.link value M.mine.formed.keyring M.mine.key
 
   -- the record can be sealed; its payload is short, made of bytes, and opens to it
-  can : Sealable s (sender.number + 1) plain
+  can : IsSealable s (sender.number + 1) plain
   can = let at = M.mine_at in record { some = fit.some; most = fit.most; bytes = fit.bytes; low = omega arith; high = omega arith }
 
   size : length payload ≡ length plain + s.overhead
@@ -118,7 +118,7 @@ module _ (s : Scheme) (law : Lawful s) (value : List ℕ) (number : ℕ) (d : Du
   short : length payload ≤ 254
   short = let most = fit.most in let over = law.overhead_bound in omega (arith, size)
 
-  sealed_bytes : Bytes payload
+  sealed_bytes : IsBytes payload
   sealed_bytes =
       law.seal_bytes mine_ring value plain sender.link role (sender.number + 1) M.mine.formed.keyring value16 (role_ok sender.role) can
 
@@ -132,13 +132,13 @@ module _ (s : Scheme) (law : Lawful s) (value : List ℕ) (number : ℕ) (d : Du
   differs = ap (λ z. eqb role (role_byte z)) M.roles ∙ opposite_differs sender.role
 
   -- the three calls, by what they do
-  abbrev seals : Turn
-  seals = stepped (record sender { number = sender.number + 1 }) conf.DataSent 0 (said_by Sch (enc payload))
+  abbrev seals : CallEffect
+  seals = stepped (record sender { number = sender.number + 1 }) conf.DataSent 0 (frame_bytes Sch (enc payload))
 
-  abbrev takes : Turn
+  abbrev takes : CallEffect
   takes = stepped (record receiver { number = receiver.number + 1; held = plain }) conf.DataAvailable 0 []
 
-  abbrev gives : Turn
+  abbrev gives : CallEffect
   gives = stepped (record receiver { number = receiver.number + 1; held = [] }) conf.Nothing 0 plain
 
   -- which calls they are made by
@@ -148,50 +148,50 @@ module _ (s : Scheme) (law : Lawful s) (value : List ℕ) (number : ℕ) (d : Du
   abbrev retrieving : Call
   retrieving = retrieve_data (d.other.supply.out (suc (length d.other.past)))
 
-  first : turn s sender sending ≡ seals
+  first : call_effect s sender sending ≡ seals
   first =
       let at = M.mine_at in
       send_is s sender plain fit (next_room d.one) (d.one.supply.rooms (length d.one.past)) value M.mine.confirmed M.mine.key (omega arith)
 
-  second : turn s receiver (hearing d.other seals.reply) ≡ takes
+  second : call_effect s receiver (hearing d.other seals.reply) ≡ takes
   second =
       let at = M.theirs_at in
       let k = length d.other.past in
       hear_is s receiver plain fit (next_room d.other) (d.other.supply.rooms k) (next_beside d.other) (d.other.supply.seeds k)
       value payload role M.theirs (omega arith) short differs opened
 
-  third : turn s takes.model retrieving ≡ gives
+  third : call_effect s takes.model retrieving ≡ gives
   third =
       let c = M.theirs.confirmed in
       let k = suc (length d.other.past) in
       data_is s takes.model plain fit (d.other.supply.out k) (d.other.supply.outs k) (record { state = c.state; service = c.service }) refl
 
   -- the two after these calls
-  abbrev after_calls : Turn → Turn → Turn → Duo
+  abbrev after_calls : CallEffect → CallEffect → CallEffect → Peers
   after_calls a b c = record {
-    one = record d.one { model = a.model; past = entered sending a ∷ d.one.past };
-    other = record d.other { model = c.model; past = entered retrieving c ∷ entered (hearing d.other a.reply) b ∷ d.other.past };
+    one = record d.one { model = a.model; past = entry_of sending a ∷ d.one.past };
+    other = record d.other { model = c.model; past = entry_of retrieving c ∷ entry_of (hearing d.other a.reply) b ∷ d.other.past };
   }
 
   -- two joint sessions stay so: the frame that came is the one that was sent
   joint_by : Joint d → Joint (after_calls seals takes gives)
   joint_by j =
-      let said = encs j.mine_since in
-      let heard = encs j.their_since in
-      let said' = said ++ (seals.reply ∷ []) in
+      let contents = encs_sent j.mine_since in
+      let heard = encs_sent j.their_since in
+      let said' = contents ++ (seals.reply ∷ []) in
       let heard' = heard ++ [] ++ [] in
-      let more : Among said said' = among_more said (seals.reply ∷ []) in
+      let more : Among contents said' = among_more contents (seals.reply ∷ []) in
       let same : Among heard heard' = λ z h. among_more (heard ++ []) [] z (among_more heard [] z h) in
-      let copy : In seals.reply (heard' ++ said') = in_back seals.reply heard' said' (in_back seals.reply said (seals.reply ∷ []) (inl refl)) in
+      let copy : IsMember seals.reply (heard' ++ said') = in_back seals.reply heard' said' (in_back seals.reply contents (seals.reply ∷ []) (inl refl)) in
       record {
-        mine_since = entered sending seals ∷ j.mine_since;
-        their_since = entered retrieving gives ∷ entered (hearing d.other seals.reply) takes ∷ j.their_since;
+        mine_since = entry_of sending seals ∷ j.mine_since;
+        their_since = entry_of retrieving gives ∷ entry_of (hearing d.other seals.reply) takes ∷ j.their_since;
         mine = goes_on j.mine refl;
         theirs = goes_on (goes_on j.theirs refl) refl;
-        mine_copies = (tt, only_more (said ++ heard) (said' ++ heard') (among_both said heard said' heard' more same) j.mine_since j.mine_copies);
+        mine_copies = (tt, only_more (contents ++ heard) (said' ++ heard') (among_both contents heard said' heard' more same) j.mine_since j.mine_copies);
         their_copies = (
           tt,
-          ((λ _. copy), only_more (heard ++ said) (heard' ++ said') (among_both heard said heard' said' same more) j.their_since j.their_copies),
+          ((λ _. copy), only_more (heard ++ contents) (heard' ++ said') (among_both heard contents heard' said' same more) j.their_since j.their_copies),
         );
       }
 
@@ -206,8 +206,8 @@ module _ (s : Scheme) (law : Lawful s) (value : List ℕ) (number : ℕ) (d : Du
     };
     over = record {
       sent_here = refl;
-      handed_there = ap (λ z. z ++ (plain ∷ [])) (append-nil (handed d.other.past));
-      sent_there = append-nil (sent d.other.past ++ []);
+      handed_there = ap (λ z. z ++ (plain ∷ [])) (append-nil (data_handed d.other.past));
+      sent_there = append-nil (data_sent d.other.past ++ []);
       handed_here = refl;
     };
     confirmed = refl;
@@ -221,11 +221,11 @@ module _ (s : Scheme) (law : Lawful s) (value : List ℕ) (number : ℕ) (d : Du
   }
 
   -- so it is with the calls themselves
-  pass : Passed value number d plain (passed s d plain)
+  pass : Passed value number d plain (after_transfer s d plain)
   pass =
-      let hear : Turn → Turn = λ z. turn s receiver (hearing d.other z.reply) in
-      let retrieve : Turn → Turn = λ z. turn s z.model retrieving in
-      let P : Turn → Turn → Turn → Type 0 = λ a b c. Passed value number d plain (after_calls a b c) in
+      let hear : CallEffect → CallEffect = λ z. call_effect s receiver (hearing d.other z.reply) in
+      let retrieve : CallEffect → CallEffect = λ z. call_effect s z.model retrieving in
+      let P : CallEffect → CallEffect → CallEffect → Type 0 = λ a b c. Passed value number d plain (after_calls a b c) in
       subst (λ z. P z (hear z) (retrieve (hear z))) (sym first)
       (subst (λ z. P seals z (retrieve z)) (sym second)
       (subst (λ z. P seals takes z) (sym third) passed_by))
@@ -233,9 +233,9 @@ module _ (s : Scheme) (law : Lawful s) (value : List ℕ) (number : ℕ) (d : Du
 -- Many records.
 
 -- what a talk does, which leads two matched sessions to the number k
-pub record Goes (s : Scheme) (value : List ℕ) (k : ℕ) (d : Duo) (talk : List Line) (e : Duo) : Type 0 where
-  pub matched : Matched value k e
-  pub over : HandedOver d e talk
+pub record Goes (s : Scheme) (value : List ℕ) (k : ℕ) (d : Peers) (transfers : List Transfer) (e : Peers) : Type 0 where
+  pub matched : IsMatched value k e
+  pub over : HandsOver d e transfers
   pub mine_keys : SameKeys d.one.model e.one.model
   pub their_keys : SameKeys d.other.model e.other.model
   pub joint : Joint d → Joint e
@@ -244,21 +244,21 @@ pub record Goes (s : Scheme) (value : List ℕ) (k : ℕ) (d : Duo) (talk : List
 
 -- The other's records: the two change places.
 
-twice : (r : Role) → opposite (opposite r) ≡ r
+twice : (r : Role) → other_role (other_role r) ≡ r
 twice Sender = refl
 twice Recipient = refl
 
-turn_matched : (value : List ℕ) (number : ℕ) (d : Duo) → Matched value number d → Matched value number (turned d)
+turn_matched : (value : List ℕ) (number : ℕ) (d : Peers) → IsMatched value number d → IsMatched value number (swapped_peers d)
 turn_matched value number d M = record {
   mine = M.theirs;
   theirs = M.mine;
-  roles = sym (ap opposite M.roles ∙ twice d.one.model.role);
+  roles = sym (ap other_role M.roles ∙ twice d.one.model.role);
   mine_at = M.theirs_at;
   theirs_at = M.mine_at;
 }
 
-turn_goes : {s : Scheme} {value : List ℕ} {k : ℕ} (plain : List ℕ) {d e : Duo} → Goes s value k (turned d) (here plain ∷ []) e
-    → Goes s value k d (there plain ∷ []) (turned e)
+turn_goes : {s : Scheme} {value : List ℕ} {k : ℕ} (plain : List ℕ) {d e : Peers} → Goes s value k (swapped_peers d) (from_one plain ∷ []) e
+    → Goes s value k d (from_other plain ∷ []) (swapped_peers e)
 turn_goes {value} {k} plain {e} g = record {
   matched = turn_matched value k e g.matched;
   over = record {
@@ -279,34 +279,34 @@ turn_goes {value} {k} plain {e} g = record {
 after_both : (a : List (List ℕ)) {b c : List (List ℕ)} (xs ys : List (List ℕ)) → b ≡ a ++ xs → c ≡ b ++ ys → c ≡ a ++ (xs ++ ys)
 after_both a xs ys p q = q ∙ ap (λ z. z ++ ys) p ∙ append_assoc a xs ys
 
-here_first : (r : Line) (later : List Line) → said_here (r ∷ []) ++ said_here later ≡ said_here (r ∷ later)
-here_first (here plain) later = refl
-here_first (there plain) later = refl
+here_first : (r : Transfer) (later : List Transfer) → data_from_one (r ∷ []) ++ data_from_one later ≡ data_from_one (r ∷ later)
+here_first (from_one plain) later = refl
+here_first (from_other plain) later = refl
 
-there_first : (r : Line) (later : List Line) → said_there (r ∷ []) ++ said_there later ≡ said_there (r ∷ later)
-there_first (here plain) later = refl
-there_first (there plain) later = refl
+there_first : (r : Transfer) (later : List Transfer) → data_from_other (r ∷ []) ++ data_from_other later ≡ data_from_other (r ∷ later)
+there_first (from_one plain) later = refl
+there_first (from_other plain) later = refl
 
 -- what the one sent, or the other, of a first record and of those that come later
-joined_here : (r : Line) (later : List Line) (a : List (List ℕ)) {b c : List (List ℕ)} → b ≡ a ++ said_here (r ∷ []) → c ≡ b ++ said_here later
-    → c ≡ a ++ said_here (r ∷ later)
+joined_here : (r : Transfer) (later : List Transfer) (a : List (List ℕ)) {b c : List (List ℕ)} → b ≡ a ++ data_from_one (r ∷ []) → c ≡ b ++ data_from_one later
+    → c ≡ a ++ data_from_one (r ∷ later)
 joined_here r later a p q =
-    after_both a (said_here (r ∷ [])) (said_here later) p q ∙ ap (λ z. a ++ z) (here_first r later)
+    after_both a (data_from_one (r ∷ [])) (data_from_one later) p q ∙ ap (λ z. a ++ z) (here_first r later)
 
-joined_there : (r : Line) (later : List Line) (a : List (List ℕ)) {b c : List (List ℕ)} → b ≡ a ++ said_there (r ∷ []) → c ≡ b ++ said_there later
-    → c ≡ a ++ said_there (r ∷ later)
+joined_there : (r : Transfer) (later : List Transfer) (a : List (List ℕ)) {b c : List (List ℕ)} → b ≡ a ++ data_from_other (r ∷ []) → c ≡ b ++ data_from_other later
+    → c ≡ a ++ data_from_other (r ∷ later)
 joined_there r later a p q =
-    after_both a (said_there (r ∷ [])) (said_there later) p q ∙ ap (λ z. a ++ z) (there_first r later)
+    after_both a (data_from_other (r ∷ [])) (data_from_other later) p q ∙ ap (λ z. a ++ z) (there_first r later)
 
-joined : (r : Line) (later : List Line) {s : Scheme} {value : List ℕ} {k l : ℕ} {d e f : Duo} → Goes s value k d (r ∷ []) e
+joined : (r : Transfer) (later : List Transfer) {s : Scheme} {value : List ℕ} {k l : ℕ} {d e f : Peers} → Goes s value k d (r ∷ []) e
     → Goes s value l e later f → Goes s value l d (r ∷ later) f
 joined r later {d} g h = record {
   matched = h.matched;
   over = record {
-    sent_here = joined_here r later (sent d.one.past) g.over.sent_here h.over.sent_here;
-    handed_there = joined_here r later (handed d.other.past) g.over.handed_there h.over.handed_there;
-    sent_there = joined_there r later (sent d.other.past) g.over.sent_there h.over.sent_there;
-    handed_here = joined_there r later (handed d.one.past) g.over.handed_here h.over.handed_here;
+    sent_here = joined_here r later (data_sent d.one.past) g.over.sent_here h.over.sent_here;
+    handed_there = joined_here r later (data_handed d.other.past) g.over.handed_there h.over.handed_there;
+    sent_there = joined_there r later (data_sent d.other.past) g.over.sent_there h.over.sent_there;
+    handed_here = joined_there r later (data_handed d.one.past) g.over.handed_here h.over.handed_here;
   };
   mine_keys = same_after g.mine_keys h.mine_keys;
   their_keys = same_after g.their_keys h.their_keys;
@@ -316,7 +316,7 @@ joined r later {d} g h = record {
 }
 
 -- no record
-none_said : (s : Scheme) (value : List ℕ) (number : ℕ) (d : Duo) → Matched value number d → Goes s value number d [] d
+none_said : (s : Scheme) (value : List ℕ) (number : ℕ) (d : Peers) → IsMatched value number d → Goes s value number d [] d
 none_said s value number d M = record {
   matched = M;
   over = record {
@@ -333,13 +333,13 @@ none_said s value number d M = record {
 }
 
 -- the same number in other words
-at_number : {s : Scheme} {value : List ℕ} {n k : ℕ} {d e : Duo} {talk : List Line} → n ≡ k → Goes s value n d talk e → Goes s value k d talk e
-at_number {s} {value} {d} {e} {talk} same g = subst (λ z. Goes s value z d talk e) same g
+at_number : {s : Scheme} {value : List ℕ} {n k : ℕ} {d e : Peers} {transfers : List Transfer} → n ≡ k → Goes s value n d transfers e → Goes s value k d transfers e
+at_number {s} {value} {d} {e} {transfers} same g = subst (λ z. Goes s value z d transfers e) same g
 
-module _ (s : Scheme) (law : Lawful s) (value : List ℕ) where
+module _ (s : Scheme) (law : IsLawful s) (value : List ℕ) where
   -- one record of the one
-  line_goes : (number : ℕ) (d : Duo) (plain : List ℕ) → Matched value number d → Fit plain → s.first ≤ number → number < s.final
-      → Goes s value (number + 1) d (here plain ∷ []) (passed s d plain)
+  line_goes : (number : ℕ) (d : Peers) (plain : List ℕ) → IsMatched value number d → IsRecordData plain → s.first ≤ number → number < s.final
+      → Goes s value (number + 1) d (from_one plain ∷ []) (after_transfer s d plain)
   line_goes number d plain M fit low below =
       let p = pass s law value number d M plain fit low below in
       record {
@@ -350,26 +350,26 @@ module _ (s : Scheme) (law : Lawful s) (value : List ℕ) where
         joint = p.joint;
         mine_run = λ means r. run_called s means (send plain (next_room d.one)) fit.bytes r;
         their_run = λ means r.
-            let from = sends s d.one plain in
-            run_called s means (retrieve_data (next_out (hears s d.other from))) tt (run_hears s means from p.bytes r);
+            let from = after_send s d.one plain in
+            run_called s means (retrieve_data (next_out (after_frame s d.other from))) tt (run_hears s means from p.bytes r);
       }
 
   -- any records, as far as the numbers reach
-  pub talk_goes : (number : ℕ) (d : Duo) → s.first ≤ number → Matched value number d → (talk : List Line) → AllFit talk
-      → number + length talk ≤ s.final → Goes s value (number + length talk) d talk (talked s d talk)
+  pub talk_goes : (number : ℕ) (d : Peers) → s.first ≤ number → IsMatched value number d → (transfers : List Transfer) → AllRecordData transfers
+      → number + length transfers ≤ s.final → Goes s value (number + length transfers) d transfers (after_transfers s d transfers)
   talk_goes number d low M [] fit most = at_number (omega arith) (none_said s value number d M)
-  talk_goes number d low M (here plain ∷ later) fit most =
+  talk_goes number d low M (from_one plain ∷ later) fit most =
       let g = line_goes number d plain M fit.0 (omega arith) (omega arith) in
-      let h = talk_goes (number + 1) (passed s d plain) (omega arith) g.matched later fit.1 (omega arith) in
-      at_number (omega arith) (joined (here plain) later g h)
-  talk_goes number d low M (there plain ∷ later) fit most =
-      let g = turn_goes plain (line_goes number (turned d) plain (turn_matched value number d M) fit.0 (omega arith) (omega arith)) in
-      let h = talk_goes (number + 1) (turned (passed s (turned d) plain)) (omega arith) g.matched later fit.1 (omega arith) in
-      at_number (omega arith) (joined (there plain) later g h)
+      let h = talk_goes (number + 1) (after_transfer s d plain) (omega arith) g.matched later fit.1 (omega arith) in
+      at_number (omega arith) (joined (from_one plain) later g h)
+  talk_goes number d low M (from_other plain ∷ later) fit most =
+      let g = turn_goes plain (line_goes number (swapped_peers d) plain (turn_matched value number d M) fit.0 (omega arith) (omega arith)) in
+      let h = talk_goes (number + 1) (swapped_peers (after_transfer s (swapped_peers d) plain)) (omega arith) g.matched later fit.1 (omega arith) in
+      at_number (omega arith) (joined (from_other plain) later g h)
 
 pub records_pass : RecordsPass
-records_pass s law value number d low M talk fit most =
-    let g = talk_goes s law value number d low M talk fit most in
+records_pass s law value number d low M transfers fit most =
+    let g = talk_goes s law value number d low M transfers fit most in
     (g.matched, g.over)
 
 pub record_passes : RecordPasses

@@ -6,13 +6,13 @@ use Rattle.frame.specs.declared.types.Service.TheVariants.{Sch}
 use Rattle.suite.specs.declared.types.Role.{Role}
 use Rattle.suite.specs.declared.types.Role.TheVariants.{Sender}
 use Rattle.suite.specs.declared.types.KeyKind.TheVariants.{SharedSecret, LinkKey}
-use Rattle.suite.specs.Meanings.{Key, Meaning, Bytes16, WellFormed, keyring_of, value_in, value_of}
+use Rattle.suite.specs.Meanings.{Key, Meaning, IsBytes16, IsWellFormed, keyring_of, value_in, value_of}
 use Rattle.suite.proofs.KeyLaws.{value_is, value_added}
-use Rattle.suite.specs.Schemes.{Under}
+use Rattle.suite.specs.Schemes.{IsUnder}
 use Rattle.protocol.specs.declared.states.State.{State}
 use Rattle.protocol.specs.declared.states.State.TheVariants.{Select, ConfirmedSch}
-use Rattle.exchanges.specs.Exchanges.{InLink}
-use Rattle.protocol.specs.Models.{Model, fresh, idle, without_key}
+use Rattle.exchanges.specs.Exchanges.{IsInLink}
+use Rattle.protocol.specs.Models.{Model, new_model, idle_model, without_key}
 
 -- Suites.
 
@@ -42,21 +42,21 @@ linked_suite root last serial value link = record {
 
 -- what two entities that meet have in their suites
 pub record Base (root : List ℕ) (last newest : ℕ) : Type 0 where
-  pub root_is : Bytes16 root
+  pub root_is : IsBytes16 root
   pub below : newest ≤ last
   pub word : last < 2 ^ 32
 
 -- a well-formed suite has it
-pub base_of : {means : Meaning} → WellFormed means → Base means.root means.last means.newest
+pub base_of : {means : Meaning} → IsWellFormed means → Base means.root means.last means.newest
 base_of f = record { root_is = f.keyring.root; below = f.newest; word = f.last }
 
 -- keyrings under that root: of a suite without a key, and of one with a shared secret
 
-pub bare_under : (root : List ℕ) (last newest : ℕ) → Bytes16 root → Under root (keyring_of (bare root last newest))
+pub bare_under : (root : List ℕ) (last newest : ℕ) → IsBytes16 root → IsUnder root (keyring_of (bare root last newest))
 bare_under root last newest root_is = record { formed = record { root = root_is; values = tt; serials = tt; apart = tt }; same = refl }
 
-pub agreed_under : (root : List ℕ) (last serial : ℕ) (value : List ℕ) → Bytes16 root → 0 < serial → Bytes16 value
-    → Under root (keyring_of (agreed_suite root last serial value))
+pub agreed_under : (root : List ℕ) (last serial : ℕ) (value : List ℕ) → IsBytes16 root → 0 < serial → IsBytes16 value
+    → IsUnder root (keyring_of (agreed_suite root last serial value))
 agreed_under root last serial value root_is some v =
     let low : 1 ≤ serial = some in
     let self : serial ≤ serial = omega arith in
@@ -64,7 +64,7 @@ agreed_under root last serial value root_is some v =
 
 -- a suite with the two keys is well formed
 linked_formed : (root : List ℕ) (last serial : ℕ) (value link : List ℕ) → Base root last (serial + 1) → 0 < serial
-    → Bytes16 value → Bytes16 link → WellFormed (linked_suite root last serial value link)
+    → IsBytes16 value → IsBytes16 link → IsWellFormed (linked_suite root last serial value link)
 linked_formed root last serial value link base some v l =
     let low : 1 ≤ serial = some in
     let next : 1 ≤ serial + 1 = omega arith in
@@ -116,11 +116,11 @@ both_gone root last serial value link some =
 
 -- the Sender before the shared secret
 abbrev pub selecting : Meaning → Service → List ℕ → Model
-selecting means service seed = record (fresh means) { state = Select; service = service; role = Sender; seed = seed }
+selecting means service seed = record (new_model means) { state = Select; service = service; role = Sender; seed = seed }
 
 -- with a shared secret under this serial
 abbrev pub sharing : List ℕ → ℕ → ℕ → List ℕ → State → Service → Role → List ℕ → Model
-sharing root last serial value state service role seed = record (fresh (agreed_suite root last serial value)) {
+sharing root last serial value state service role seed = record (new_model (agreed_suite root last serial value)) {
   state = state;
   service = service;
   role = role;
@@ -130,7 +130,7 @@ sharing root last serial value state service role seed = record (fresh (agreed_s
 
 -- in a link session, with the link key under the next serial
 abbrev pub linking : List ℕ → ℕ → ℕ → List ℕ → List ℕ → Role → List ℕ → ℕ → Model
-linking root last serial value link role seed number = record (fresh (linked_suite root last serial value link)) {
+linking root last serial value link role seed number = record (new_model (linked_suite root last serial value link)) {
   state = ConfirmedSch;
   service = Sch;
   role = role;
@@ -142,12 +142,12 @@ linking root last serial value link role seed number = record (fresh (linked_sui
 
 -- once Idle is entered no key is left
 abbrev pub Clears : Model → Type 0
-Clears m = (idle m).means.live ≡ []
+Clears m = (idle_model m).means.live ≡ []
 
 -- so it is in a link session whose key has that value
 pub linked_in : (root : List ℕ) (last serial : ℕ) (value link : List ℕ) (role : Role) (seed : List ℕ) (number : ℕ)
-    → Base root last (serial + 1) → 0 < serial → Bytes16 value → Bytes16 link
-    → InLink link (linking root last serial value link role seed number)
+    → Base root last (serial + 1) → 0 < serial → IsBytes16 value → IsBytes16 link
+    → IsInLink link (linking root last serial value link role seed number)
 linked_in root last serial value link role seed number base some v l = record {
   formed = linked_formed root last serial value link base some v l;
   confirmed = record { state = refl; service = refl };

@@ -10,7 +10,7 @@ use Rattle.suite.specs.declared.types.Role.{Role}
 use Rattle.suite.specs.declared.types.Role.TheVariants.{Sender, Recipient}
 use Rattle.suite.specs.declared.types.KeyKind.TheVariants.{LinkKey}
 use Rattle.suite.specs.Numbers.{role_byte}
-use Rattle.suite.specs.Meanings.{Bytes16, keyring_of, value_in}
+use Rattle.suite.specs.Meanings.{IsBytes16, keyring_of, value_in}
 use Rattle.suite.specs.Schemes.{Scheme}
 use Rattle.suite.proofs.CallLaws.{room_enough}
 use Rattle.suite.proofs.KeyLaws.{value_is}
@@ -18,16 +18,16 @@ use Rattle.protocol.specs.declared.states.State.{State}
 use Rattle.protocol.specs.declared.states.State.TheVariants.{EstablishedSender, EstablishedRecipient, ConfirmedSse}
 use Rattle.protocol.specs.declared.outcomes.Confirmation.{Confirmation}
 use Rattle.protocol.specs.declared.outcomes.Confirmation.TheVariants as conf
-use Rattle.protocol.specs.Outcomes.{quiet}
-use Rattle.protocol.specs.Models.{Model, Ancillary, fresh, no_seed}
-use Rattle.protocol.specs.Steps.{said_by, with_secret, check_value, derivation, sealed_record, good, opened_record}
-use Rattle.protocol.specs.Calls.{Turn, invoke, send, retrieve_data, retrieve_secret, terminate, frame, turn, ended}
-use Rattle.exchanges.specs.Exchanges.{Confirmed, InLink, Fit}
+use Rattle.protocol.specs.Outcomes.{ongoing_outcome}
+use Rattle.protocol.specs.Models.{Model, Ancillary, new_model, no_seed}
+use Rattle.protocol.specs.Steps.{frame_bytes, with_secret, check_value, derivation, sealed_record, good_record, opened_record}
+use Rattle.protocol.specs.Calls.{CallEffect, invoke, send, retrieve_data, retrieve_secret, terminate, frame, call_effect, ended}
+use Rattle.exchanges.specs.Exchanges.{IsConfirmed, IsInLink, IsRecordData}
 use Rattle.exchanges.proofs.Shapes.{bare, agreed_suite, secret_is, selecting, sharing, linking}
 
 -- a call that meets no fault and destroys no key
-abbrev pub stepped : Model → Confirmation → ℕ → List ℕ → Turn
-stepped m confirmation made reply = record { model = m; answer = Ok (quiet confirmation (length reply) made); reply = reply }
+abbrev pub stepped : Model → Confirmation → ℕ → List ℕ → CallEffect
+stepped m confirmation made reply = record { model = m; answer = Ok (ongoing_outcome confirmation (length reply) made); reply = reply }
 
 -- bytes are equal to themselves
 same_bytes : (p : List ℕ) → bytes_eq p p ≡ true
@@ -38,8 +38,8 @@ same_bytes p = (bytes_eq-Decides p p).1 refl
 module _ (s : Scheme) (root : List ℕ) (last n room : ℕ) (wide : ltb room 255 ≡ false) where
   -- INVOKE
   pub ask_is : (v : Service) (seed : List ℕ) → eqb (length seed) 16 ≡ true
-      → turn s (fresh (bare root last n)) (invoke v s.pid seed room)
-      ≡ stepped (selecting (bare root last n) v seed) conf.Nothing 0 (said_by v (act_req s.pid (s.offer_of (keyring_of (bare root last n)) seed)))
+      → call_effect s (new_model (bare root last n)) (invoke v s.pid seed room)
+      ≡ stepped (selecting (bare root last n) v seed) conf.Nothing 0 (frame_bytes v (act_req s.pid (s.offer_of (keyring_of (bare root last n)) seed)))
   ask_is v seed long = let pid = eq-eqb s.pid s.pid refl in rw (wide, long, pid)
 
   -- the two once they have a shared secret of this value
@@ -51,10 +51,10 @@ module _ (s : Scheme) (root : List ℕ) (last n room : ℕ) (wide : ltb room 255
 
   -- ACT_REQ
   pub reply_is : (v : Service) (offer : List ℕ) (answering : Ancillary) → eqb (length answering.seed) 16 ≡ true
-      → ltb 255 (length (said_by v (act_req s.pid offer))) ≡ false → s.fit_of (keyring_of (bare root last n)) offer ≡ true → eqb n last ≡ false
+      → ltb 255 (length (frame_bytes v (act_req s.pid offer))) ≡ false → s.fit_of (keyring_of (bare root last n)) offer ≡ true → eqb n last ≡ false
       → let value = s.secret_of (keyring_of (bare root last n)) 2 answering.seed offer in
-      turn s (fresh (bare root last n)) (frame (said_by v (act_req s.pid offer)) answering room)
-      ≡ stepped (agreeing v value) conf.Nothing (n + 1) (said_by v (act_res (s.offer_of (keyring_of (agreed_suite root last (n + 1) value)) answering.seed)))
+      call_effect s (new_model (bare root last n)) (frame (frame_bytes v (act_req s.pid offer)) answering room)
+      ≡ stepped (agreeing v value) conf.Nothing (n + 1) (frame_bytes v (act_res (s.offer_of (keyring_of (agreed_suite root last (n + 1) value)) answering.seed)))
   reply_is Sse offer answering long short fit left = let pid = eq-eqb s.pid s.pid refl in rw (wide, long, short, pid, fit, left)
   reply_is Sch offer answering long short fit left = let pid = eq-eqb s.pid s.pid refl in rw (wide, long, short, pid, fit, left)
 
@@ -65,10 +65,10 @@ module _ (s : Scheme) (root : List ℕ) (last n room : ℕ) (wide : ltb room 255
 
   -- ACT_RES
   pub check_is : (v : Service) (offer seed : List ℕ) (beside : Ancillary) → eqb (length beside.seed) 16 ≡ true
-      → ltb 255 (length (said_by v (act_res offer))) ≡ false → s.fit_of (keyring_of (bare root last n)) offer ≡ true → eqb n last ≡ false
+      → ltb 255 (length (frame_bytes v (act_res offer))) ≡ false → s.fit_of (keyring_of (bare root last n)) offer ≡ true → eqb n last ≡ false
       → let value = s.secret_of (keyring_of (bare root last n)) 1 seed offer in
-      turn s (selecting (bare root last n) v seed) (frame (said_by v (act_res offer)) beside room)
-      ≡ stepped (asking v seed value) conf.Nothing (n + 1) (said_by v (vfy_req (s.check_of (keyring_of (agreed_suite root last (n + 1) value)) (n + 1) value 1)))
+      call_effect s (selecting (bare root last n) v seed) (frame (frame_bytes v (act_res offer)) beside room)
+      ≡ stepped (asking v seed value) conf.Nothing (n + 1) (frame_bytes v (vfy_req (s.check_of (keyring_of (agreed_suite root last (n + 1) value)) (n + 1) value 1)))
   check_is Sse offer seed beside long short fit left = let own = asks_by Sse seed (s.secret_of (keyring_of (bare root last n)) 1 seed offer) in rw (wide, long, short, fit, left, own)
   check_is Sch offer seed beside long short fit left = let own = asks_by Sch seed (s.secret_of (keyring_of (bare root last n)) 1 seed offer) in rw (wide, long, short, fit, left, own)
 
@@ -96,18 +96,18 @@ module _ (s : Scheme) (root : List ℕ) (last n room : ℕ) (wide : ltb room 255
       rw (left, same)
 
   -- VFY_REQ
-  pub confirm_sse : ltb 255 (length (said_by Sse (vfy_req asked))) ≡ false
-      → turn s (before EstablishedRecipient Sse Recipient no_seed) (frame (said_by Sse (vfy_req asked)) beside room)
-      ≡ stepped (before ConfirmedSse Sse Recipient no_seed) conf.Established 0 (said_by Sse (vfy_res replied))
+  pub confirm_sse : ltb 255 (length (frame_bytes Sse (vfy_req asked))) ≡ false
+      → call_effect s (before EstablishedRecipient Sse Recipient no_seed) (frame (frame_bytes Sse (vfy_req asked)) beside room)
+      ≡ stepped (before ConfirmedSse Sse Recipient no_seed) conf.Established 0 (frame_bytes Sse (vfy_res replied))
   confirm_sse short =
       let theirs = checks EstablishedRecipient Sse Recipient Sender no_seed ∙ senders in
       let own = checks EstablishedRecipient Sse Recipient Recipient no_seed ∙ recipients in
       let same = same_bytes asked in
       rw (wide, long, short, theirs, same, own)
 
-  pub confirm_sch : ltb 255 (length (said_by Sch (vfy_req asked))) ≡ false → eqb n last ≡ false
-      → turn s (before EstablishedRecipient Sch Recipient no_seed) (frame (said_by Sch (vfy_req asked)) beside room)
-      ≡ stepped (linked Recipient no_seed) conf.Established (n + 1) (said_by Sch (vfy_res replied))
+  pub confirm_sch : ltb 255 (length (frame_bytes Sch (vfy_req asked))) ≡ false → eqb n last ≡ false
+      → call_effect s (before EstablishedRecipient Sch Recipient no_seed) (frame (frame_bytes Sch (vfy_req asked)) beside room)
+      ≡ stepped (linked Recipient no_seed) conf.Established (n + 1) (frame_bytes Sch (vfy_res replied))
   confirm_sch short left =
       let theirs = checks EstablishedRecipient Sch Recipient Sender no_seed ∙ senders in
       let own = checks EstablishedRecipient Sch Recipient Recipient no_seed ∙ recipients in
@@ -116,16 +116,16 @@ module _ (s : Scheme) (root : List ℕ) (last n room : ℕ) (wide : ltb room 255
       rw (wide, long, short, theirs, same, own, link)
 
   -- VFY_RES
-  pub complete_sse : (seed : List ℕ) → ltb 255 (length (said_by Sse (vfy_res replied))) ≡ false
-      → turn s (before EstablishedSender Sse Sender seed) (frame (said_by Sse (vfy_res replied)) beside room)
+  pub complete_sse : (seed : List ℕ) → ltb 255 (length (frame_bytes Sse (vfy_res replied))) ≡ false
+      → call_effect s (before EstablishedSender Sse Sender seed) (frame (frame_bytes Sse (vfy_res replied)) beside room)
       ≡ stepped (before ConfirmedSse Sse Sender seed) conf.Established 0 []
   complete_sse seed short =
       let theirs = checks EstablishedSender Sse Sender Recipient seed ∙ recipients in
       let same = same_bytes replied in
       rw (wide, long, short, theirs, same)
 
-  pub complete_sch : (seed : List ℕ) → ltb 255 (length (said_by Sch (vfy_res replied))) ≡ false → eqb n last ≡ false
-      → turn s (before EstablishedSender Sch Sender seed) (frame (said_by Sch (vfy_res replied)) beside room)
+  pub complete_sch : (seed : List ℕ) → ltb 255 (length (frame_bytes Sch (vfy_res replied))) ≡ false → eqb n last ≡ false
+      → call_effect s (before EstablishedSender Sch Sender seed) (frame (frame_bytes Sch (vfy_res replied)) beside room)
       ≡ stepped (linked Sender seed) conf.Established (n + 1) []
   complete_sch seed short left =
       let theirs = checks EstablishedSender Sch Sender Recipient seed ∙ recipients in
@@ -136,12 +136,12 @@ module _ (s : Scheme) (root : List ℕ) (last n room : ℕ) (wide : ltb room 255
 -- RETRIEVE_SECRET
 pub tell_is : (s : Scheme) (root : List ℕ) (last n : ℕ) (role : Role) (seed value : List ℕ) (room : ℕ) → ltb room 16 ≡ false
     → let m = sharing root last n value ConfirmedSse Sse role seed in
-    turn s m (retrieve_secret room) ≡ stepped m conf.Nothing 0 value
+    call_effect s m (retrieve_secret room) ≡ stepped m conf.Nothing 0 value
 tell_is s root last n role seed value room wide = let self = eq-eqb n n refl in rw (wide, self)
 
 -- Records.
 
-module _ (s : Scheme) (m : Model) (plain : List ℕ) (fit : Fit plain) where
+module _ (s : Scheme) (m : Model) (plain : List ℕ) (fit : IsRecordData plain) where
   -- the facts that each call needs
   filled : eqb (length plain) 0 ≡ false
   filled = let some = fit.some in ne_eqb (length plain) 0 (λ e. omega arith)
@@ -150,10 +150,10 @@ module _ (s : Scheme) (m : Model) (plain : List ℕ) (fit : Fit plain) where
   not_long = le-ltb 200 (length plain) fit.most
 
   -- SEND
-  pub send_is : (room : ℕ) → 255 ≤ room → (value : List ℕ) → Confirmed Sch m → value_in m.means.live LinkKey m.link ≡ Some value
+  pub send_is : (room : ℕ) → 255 ≤ room → (value : List ℕ) → IsConfirmed Sch m → value_in m.means.live LinkKey m.link ≡ Some value
       → m.number < s.final
       → let payload = s.seal_of (keyring_of m.means) m.link value (role_byte m.role) (m.number + 1) plain in
-      turn s m (send plain room) ≡ stepped (record m { number = m.number + 1 }) conf.DataSent 0 (said_by Sch (enc payload))
+      call_effect s m (send plain room) ≡ stepped (record m { number = m.number + 1 }) conf.DataSent 0 (frame_bytes Sch (enc payload))
   send_is room enough value c key below =
       let roomy = room_enough room enough in
       let state = c.state in
@@ -163,10 +163,10 @@ module _ (s : Scheme) (m : Model) (plain : List ℕ) (fit : Fit plain) where
       rw (sealed, roomy, state, filled, not_long, next)
 
   -- ENC of the other role
-  pub hear_is : (room : ℕ) → 255 ≤ room → (beside : Ancillary) → Bytes16 beside.seed → (value payload : List ℕ) (role : ℕ)
-      → InLink value m → m.number < s.final → length payload ≤ 254 → eqb role (role_byte m.role) ≡ false
+  pub hear_is : (room : ℕ) → 255 ≤ room → (beside : Ancillary) → IsBytes16 beside.seed → (value payload : List ℕ) (role : ℕ)
+      → IsInLink value m → m.number < s.final → length payload ≤ 254 → eqb role (role_byte m.role) ≡ false
       → s.open_of (keyring_of m.means) m.link value payload ≡ Some (role, m.number + 1, plain)
-      → turn s m (frame (said_by Sch (enc payload)) beside room)
+      → call_effect s m (frame (frame_bytes Sch (enc payload)) beside room)
       ≡ stepped (record m { number = m.number + 1; held = plain }) conf.DataAvailable 0 []
   hear_is room enough beside h value payload role c below light differs opens =
       let roomy = room_enough room enough in
@@ -174,16 +174,16 @@ module _ (s : Scheme) (m : Model) (plain : List ℕ) (fit : Fit plain) where
       let service = c.confirmed.service in
       let none = c.none_held in
       let opened : opened_record s m payload ≡ Ok (role, m.number + 1, plain)
-      = ap (λ z. good (s.open_of (keyring_of m.means) m.link z payload)) (value_is m.means.live LinkKey m.link value c.key) ∙ ap good opens in
+      = ap (λ z. good_record (s.open_of (keyring_of m.means) m.link z payload)) (value_is m.means.live LinkKey m.link value c.key) ∙ ap good_record opens in
       let sixteen : eqb (length beside.seed) 16 ≡ true = eq-eqb (length beside.seed) 16 h.long in
-      let short : ltb 255 (length (said_by Sch (enc payload))) ≡ false = le-ltb 255 (length (said_by Sch (enc payload))) (omega arith) in
+      let short : ltb 255 (length (frame_bytes Sch (enc payload))) ≡ false = le-ltb 255 (length (frame_bytes Sch (enc payload))) (omega arith) in
       let other : eqb (m.number + 1) m.number ≡ false = ne_eqb (m.number + 1) m.number (λ e. omega arith) in
       let self : eqb (m.number + 1) (m.number + 1) ≡ true = eq-eqb (m.number + 1) (m.number + 1) refl in
       let low : ltb s.final (m.number + 1) ≡ false = le-ltb s.final (m.number + 1) (omega arith) in
       rw (roomy, sixteen, short, none, state, service, opened, filled, not_long, other, differs, self, low)
 
   -- RETRIEVE_DATA
-  pub data_is : (room : ℕ) → 200 ≤ room → Confirmed Sch m → m.held ≡ plain → turn s m (retrieve_data room) ≡ stepped (record m { held = [] }) conf.Nothing 0 plain
+  pub data_is : (room : ℕ) → 200 ≤ room → IsConfirmed Sch m → m.held ≡ plain → call_effect s m (retrieve_data room) ≡ stepped (record m { held = [] }) conf.Nothing 0 plain
   data_is room enough c held =
       let most = fit.most in
       let state = c.state in
@@ -197,13 +197,13 @@ module _ (s : Scheme) (m : Model) (room : ℕ) (enough : 255 ≤ room) where
   wide = room_enough room enough
 
   -- TERMINATE
-  pub part_is : (v : Service) → Confirmed v m → turn s m (terminate room) ≡ ended m conf.Terminated (said_by v (tmn [])) None
+  pub part_is : (v : Service) → IsConfirmed v m → call_effect s m (terminate room) ≡ ended m conf.Terminated (frame_bytes v (tmn [])) None
   part_is Sse c = let state = c.state in let service = c.service in rw (wide, state, service)
   part_is Sch c = let state = c.state in let service = c.service in rw (wide, state, service)
 
   -- TMN
-  pub parted_is : (v : Service) (beside : Ancillary) → Confirmed v m → Bytes16 beside.seed
-      → turn s m (frame (said_by v (tmn [])) beside room) ≡ ended m conf.Terminated [] None
+  pub parted_is : (v : Service) (beside : Ancillary) → IsConfirmed v m → IsBytes16 beside.seed
+      → call_effect s m (frame (frame_bytes v (tmn [])) beside room) ≡ ended m conf.Terminated [] None
   parted_is Sse beside c h =
       let long = eq-eqb (length beside.seed) 16 h.long in
       let state = c.state in

@@ -1,2 +1,2 @@
-pub mod Duos
+pub mod Peers
 pub mod Exchanges

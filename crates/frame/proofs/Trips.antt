@@ -9,23 +9,23 @@ use Rattle.frame.specs.declared.types.MessageKind.{MessageKind}
 use Rattle.frame.specs.declared.types.MessageKind.TheVariants as msg
 use Rattle.frame.specs.declared.faults.FaultCode.{FaultCode}
 use Rattle.frame.specs.declared.faults.Refusal.{Refusal}
-use Rattle.frame.specs.Numbers.{service_code, message_code, codec}
-use Rattle.frame.specs.Frames.{Said, act_req, act_res, vfy_req, vfy_res, enc, tmn, error, Parts, kind_of, fields, sep, wire}
-use Rattle.frame.specs.Reading.{rfu_bits, svc_bits, msg_bits, coded, services, messages, service_of, message_of, named, head, shaped, Reading, message, refused, with_body, with_head, reading}
-use Rattle.buffers.specs.Buffers.{over, length_answer, written}
-use Rattle.frame.specs.Writing.{laden, writing, numbered, ReadsBack, WritesAgain}
+use Rattle.frame.specs.Numbers.{service_code, message_code, codec_code}
+use Rattle.frame.specs.Frames.{Contents, act_req, act_res, vfy_req, vfy_res, enc, tmn, error, FrameParts, kind_of, bytes_after_sep, sep, wire_bytes}
+use Rattle.frame.specs.Reading.{rfu_bits, svc_bits, msg_bits, find_code, all_services, all_kinds, service_with, kind_with, service_and_kind, sep_reading, contents_reading, Reading, message, refused, reading_of_contents, reading_of_sep, reading}
+use Rattle.buffers.specs.Buffers.{with_front, length_result, buffer_after}
+use Rattle.frame.specs.Writing.{is_tmn_with_payload, writing_result, numbered_result, ReadsBack, WritesAgain}
 
 never : {P : Type 0} → ◌≡◌ {A = ℕ} 0 1 → P
 never z = absurd (omega arith)
 
 -- From bytes to a message and back.
 
-coded_at : {A : Type 0} (code : A → ℕ) (more : List A) (n : ℕ) (b a : A) → (coded code more n ≡ Some a → n ≡ code a) → (t : Bool) → eqb n (code b) ≡ t → cond t (Some b) (coded code more n) ≡ Some a → n ≡ code a
+coded_at : {A : Type 0} (code : A → ℕ) (more : List A) (n : ℕ) (b a : A) → (find_code code more n ≡ Some a → n ≡ code a) → (t : Bool) → eqb n (code b) ≡ t → cond t (Some b) (find_code code more n) ≡ Some a → n ≡ code a
 coded_at code more n b a later true q r = let same : b ≡ a = cc in eqb-true n (code b) q ∙ ap code same
 coded_at code more n b a later false q r = later r
 
 -- what is found under a code has that code
-coded_is : {A : Type 0} (code : A → ℕ) (some : List A) (n : ℕ) (a : A) → coded code some n ≡ Some a → n ≡ code a
+coded_is : {A : Type 0} (code : A → ℕ) (some : List A) (n : ℕ) (a : A) → find_code code some n ≡ Some a → n ≡ code a
 coded_is code [] n a e = never (cc)
 coded_is code (b ∷ more) n a e = coded_at code more n b a (coded_is code more n a) (eqb n (code b)) refl e
 
@@ -33,32 +33,32 @@ joined : (b : ℕ) (s : Service) (k : MessageKind) → rfu_bits b ≡ 0 → svc_
 joined b s k r v m = omega arith
 
 -- a SEP byte that is read is the byte of its service and message
-head_is : (b : ℕ) (s : Service) (k : MessageKind) → head b ≡ Ok (s, k) → b ≡ sep s k
+head_is : (b : ℕ) (s : Service) (k : MessageKind) → sep_reading b ≡ Ok (s, k) → b ≡ sep s k
 head_is b s k e = at (eqb (rfu_bits b) 0) refl e
   where
-    name : (o : Option Service) (p : Option MessageKind) → service_of (svc_bits b) ≡ o → message_of (msg_bits b) ≡ p → rfu_bits b ≡ 0 → named o p ≡ Ok (s, k) → b ≡ sep s k
+    name : (o : Option Service) (p : Option MessageKind) → service_with (svc_bits b) ≡ o → kind_with (msg_bits b) ≡ p → rfu_bits b ≡ 0 → service_and_kind o p ≡ Ok (s, k) → b ≡ sep s k
     name None p ho hp r q = never (cc)
     name (Some v) None ho hp r q = never (cc)
     name (Some v) (Some m) ho hp r q =
         let pair : ◌≡◌ {A = Service × MessageKind} (v, m) (s, k) = cc in
-        let hv = coded_is service_code services (svc_bits b) v ho ∙ ap (λ z. service_code z.0) pair in
-        let hm = coded_is message_code messages (msg_bits b) m hp ∙ ap (λ z. message_code z.1) pair in
+        let hv = coded_is service_code all_services (svc_bits b) v ho ∙ ap (λ z. service_code z.0) pair in
+        let hm = coded_is message_code all_kinds (msg_bits b) m hp ∙ ap (λ z. message_code z.1) pair in
         joined b s k r hv hm
 
-    at : (t : Bool) → eqb (rfu_bits b) 0 ≡ t → cond (not t) (Err (codec 1 0)) (named (service_of (svc_bits b)) (message_of (msg_bits b))) ≡ Ok (s, k) → b ≡ sep s k
-    at true q r = name (service_of (svc_bits b)) (message_of (msg_bits b)) refl refl (eqb-true (rfu_bits b) 0 q) r
+    at : (t : Bool) → eqb (rfu_bits b) 0 ≡ t → cond (not t) (Err (codec_code 1 0)) (service_and_kind (service_with (svc_bits b)) (kind_with (msg_bits b))) ≡ Ok (s, k) → b ≡ sep s k
+    at true q r = name (service_with (svc_bits b)) (kind_with (msg_bits b)) refl refl (eqb-true (rfu_bits b) 0 q) r
     at false q r = never (cc)
 
 -- what was read of the bytes after SEP
-record Shaped (k : MessageKind) (rest : List ℕ) (x : Said) : Type 0 where
+record Shaped (k : MessageKind) (rest : List ℕ) (x : Contents) : Type 0 where
   kind : kind_of x ≡ k
-  bytes : fields x ≡ rest
-  light : laden x ≡ false
+  bytes : bytes_after_sep x ≡ rest
+  light : is_tmn_with_payload x ≡ false
 
-shaped_as : (y x : Said) → laden y ≡ false → ◌≡◌ {A = Result Said FaultCode} (Ok y) (Ok x) → Shaped (kind_of y) (fields y) x
-shaped_as y x light e = let same : y ≡ x = cc in subst (Shaped (kind_of y) (fields y)) same (record { kind = refl; bytes = refl; light = light })
+shaped_as : (y x : Contents) → is_tmn_with_payload y ≡ false → ◌≡◌ {A = Result Contents FaultCode} (Ok y) (Ok x) → Shaped (kind_of y) (bytes_after_sep y) x
+shaped_as y x light e = let same : y ≡ x = cc in subst (Shaped (kind_of y) (bytes_after_sep y)) same (record { kind = refl; bytes = refl; light = light })
 
-shaped_is : (k : MessageKind) (rest : List ℕ) (x : Said) → shaped k rest ≡ Ok x → Shaped k rest x
+shaped_is : (k : MessageKind) (rest : List ℕ) (x : Contents) → contents_reading k rest ≡ Ok x → Shaped k rest x
 shaped_is msg.ActReq [] x e = never (cc)
 shaped_is msg.ActReq (pid ∷ p) x e = shaped_as (act_req pid p) x refl e
 shaped_is msg.ActRes p x e = shaped_as (act_res p) x refl e
@@ -70,41 +70,41 @@ shaped_is msg.Tmn (y ∷ p) x e = never (cc)
 shaped_is msg.Error p x e = shaped_as (error p) x refl e
 
 -- a frame that is read as a message is the bytes of that message, which the writer does not refuse
-record Taken (frame : List ℕ) (x : Parts) : Type 0 where
-  bytes : wire x ≡ frame
-  light : laden x.said ≡ false
+record Taken (frame : List ℕ) (x : FrameParts) : Type 0 where
+  bytes : wire_bytes x ≡ frame
+  light : is_tmn_with_payload x.contents ≡ false
   short : ltb 255 (length frame) ≡ false
 
-taken_body : (b : ℕ) (rest : List ℕ) (s : Service) (k : MessageKind) (x : Parts) (r : Result Said FaultCode) → b ≡ sep s k → ltb 255 (length (b ∷ rest)) ≡ false → shaped k rest ≡ r → with_body s r ≡ message x → Taken (b ∷ rest) x
+taken_body : (b : ℕ) (rest : List ℕ) (s : Service) (k : MessageKind) (x : FrameParts) (r : Result Contents FaultCode) → b ≡ sep s k → ltb 255 (length (b ∷ rest)) ≡ false → contents_reading k rest ≡ r → reading_of_contents s r ≡ message x → Taken (b ∷ rest) x
 taken_body b rest s k x (Err f) hb short hr e = never (cc)
 taken_body b rest s k x (Ok y) hb short hr e =
     let h = shaped_is k rest y hr in
-    let same : ◌≡◌ {A = Parts} (record { service = s; said = y }) x = cc in
+    let same : ◌≡◌ {A = FrameParts} (record { service = s; contents = y }) x = cc in
     let head' : sep s (kind_of y) ≡ b = ap (sep s) h.kind ∙ sym hb in
-    let whole : wire (record { service = s; said = y }) ≡ b ∷ rest = ap (λ z. z ∷ fields y) head' ∙ ap (λ z. b ∷ z) h.bytes in
+    let whole : wire_bytes (record { service = s; contents = y }) ≡ b ∷ rest = ap (λ z. z ∷ bytes_after_sep y) head' ∙ ap (λ z. b ∷ z) h.bytes in
     subst (Taken (b ∷ rest)) same (record { bytes = whole; light = h.light; short = short })
 
-taken_head : (b : ℕ) (rest : List ℕ) (x : Parts) (r : Result (Service × MessageKind) FaultCode) → ltb 255 (length (b ∷ rest)) ≡ false → head b ≡ r → with_head r rest ≡ message x → Taken (b ∷ rest) x
+taken_head : (b : ℕ) (rest : List ℕ) (x : FrameParts) (r : Result (Service × MessageKind) FaultCode) → ltb 255 (length (b ∷ rest)) ≡ false → sep_reading b ≡ r → reading_of_sep r rest ≡ message x → Taken (b ∷ rest) x
 taken_head b rest x (Err f) short hr e = never (cc)
-taken_head b rest x (Ok (s, k)) short hr e = taken_body b rest s k x (shaped k rest) (head_is b s k hr) short refl e
+taken_head b rest x (Ok (s, k)) short hr e = taken_body b rest s k x (contents_reading k rest) (head_is b s k hr) short refl e
 
-taken_at : (b : ℕ) (rest : List ℕ) (x : Parts) (t : Bool) → ltb 255 (length (b ∷ rest)) ≡ t → cond t (refused 3) (with_head (head b) rest) ≡ message x → Taken (b ∷ rest) x
+taken_at : (b : ℕ) (rest : List ℕ) (x : FrameParts) (t : Bool) → ltb 255 (length (b ∷ rest)) ≡ t → cond t (refused 3) (reading_of_sep (sep_reading b) rest) ≡ message x → Taken (b ∷ rest) x
 taken_at b rest x true short e = never (cc)
-taken_at b rest x false short e = taken_head b rest x (head b) short refl e
+taken_at b rest x false short e = taken_head b rest x (sep_reading b) short refl e
 
-taken : (frame : List ℕ) (x : Parts) → reading frame ≡ message x → Taken frame x
+taken : (frame : List ℕ) (x : FrameParts) → reading frame ≡ message x → Taken frame x
 taken [] x e = never (cc)
 taken (b ∷ rest) x e = taken_at b rest x (ltb 255 (length (b ∷ rest))) refl e
 
 -- bytes that are read as a message are the bytes of that message
-pub read_is : (frame : List ℕ) (x : Parts) → reading frame ≡ message x → wire x ≡ frame
+pub read_is : (frame : List ℕ) (x : FrameParts) → reading frame ≡ message x → wire_bytes x ≡ frame
 read_is frame x e = (taken frame x e).bytes
 
 -- what stands after its SEP has at most 254 bytes
-pub read_short : (frame : List ℕ) (x : Parts) → reading frame ≡ message x → length (fields x.said) ≤ 254
+pub read_short : (frame : List ℕ) (x : FrameParts) → reading frame ≡ message x → length (bytes_after_sep x.contents) ≤ 254
 read_short frame x e =
     let t = taken frame x e in
-    let long : length (wire x) ≡ length frame = ap length t.bytes in
+    let long : length (wire_bytes x) ≡ length frame = ap length t.bytes in
     let most : length frame ≤ 255 = ltb-false 255 (length frame) t.short in
     omega arith
 
@@ -112,12 +112,12 @@ pub writes_again : (frame : List ℕ) (r : Reading) → r ≡ reading frame → 
 writes_again frame r is x room e h =
     let t = taken frame x (sym is ∙ e) in
     let enough : ltb room 255 ≡ false = le-ltb room 255 h in
-    let short : ltb 255 (length (wire x)) ≡ false = ap (λ z. ltb 255 (length z)) t.bytes ∙ t.short in
+    let short : ltb 255 (length (wire_bytes x)) ≡ false = ap (λ z. ltb 255 (length z)) t.bytes ∙ t.short in
     rw (enough, short, t.light, t.bytes)
 
 -- From a message to bytes and back.
 
-head_of : (s : Service) (k : MessageKind) → head (sep s k) ≡ Ok (s, k)
+head_of : (s : Service) (k : MessageKind) → sep_reading (sep s k) ≡ Ok (s, k)
 head_of Sse msg.ActReq = refl
 head_of Sse msg.ActRes = refl
 head_of Sse msg.VfyReq = refl
@@ -133,7 +133,7 @@ head_of Sch msg.Enc = refl
 head_of Sch msg.Tmn = refl
 head_of Sch msg.Error = refl
 
-shaped_of : (x : Said) → laden x ≡ false → shaped (kind_of x) (fields x) ≡ Ok x
+shaped_of : (x : Contents) → is_tmn_with_payload x ≡ false → contents_reading (kind_of x) (bytes_after_sep x) ≡ Ok x
 shaped_of (act_req pid p) h = refl
 shaped_of (act_res p) h = refl
 shaped_of (vfy_req p) h = refl
@@ -143,17 +143,17 @@ shaped_of (tmn []) h = refl
 shaped_of (tmn (y ∷ p)) h = never (grind (arith, nat_tests))
 shaped_of (error p) h = refl
 
-reads : (x : Parts) → ltb 255 (length (wire x)) ≡ false → laden x.said ≡ false → reading (wire x) ≡ message x
+reads : (x : FrameParts) → ltb 255 (length (wire_bytes x)) ≡ false → is_tmn_with_payload x.contents ≡ false → reading (wire_bytes x) ≡ message x
 reads x short light =
-    ap (λ b. cond b (refused 3) (with_head (head (sep x.service (kind_of x.said))) (fields x.said))) short
-    ∙ ap (λ r. with_head r (fields x.said)) (head_of x.service (kind_of x.said))
-    ∙ ap (with_body x.service) (shaped_of x.said light)
+    ap (λ b. cond b (refused 3) (reading_of_sep (sep_reading (sep x.service (kind_of x.contents))) (bytes_after_sep x.contents))) short
+    ∙ ap (λ r. reading_of_sep r (bytes_after_sep x.contents)) (head_of x.service (kind_of x.contents))
+    ∙ ap (reading_of_contents x.service) (shaped_of x.contents light)
 
-pub reads_back : (x : Parts) (r : Result ℕ Refusal) (old new : List ℕ) → numbered r ≡ length_answer (writing x (length old)) → new ≡ written (writing x (length old)) old → ReadsBack x r new
+pub reads_back : (x : FrameParts) (r : Result ℕ Refusal) (old new : List ℕ) → numbered_result r ≡ length_result (writing_result x (length old)) → new ≡ buffer_after (writing_result x (length old)) old → ReadsBack x r new
 reads_back x (Err e) old new h k = tt
 reads_back x (Ok n) old new h k =
-    let s : ltb 255 (length (wire x)) ≡ false = grind (arith, nat_tests) in
-    let light : laden x.said ≡ false = grind (arith, nat_tests) in
-    let is : n ≡ length (wire x) = grind (arith, nat_tests) in
-    let all : new ≡ over (wire x) old = grind (arith, nat_tests) in
-    ap reading (ap (take n) all ∙ take_at (wire x) (drop (length (wire x)) old) n (sym is)) ∙ reads x s light
+    let s : ltb 255 (length (wire_bytes x)) ≡ false = grind (arith, nat_tests) in
+    let light : is_tmn_with_payload x.contents ≡ false = grind (arith, nat_tests) in
+    let is : n ≡ length (wire_bytes x) = grind (arith, nat_tests) in
+    let all : new ≡ with_front (wire_bytes x) old = grind (arith, nat_tests) in
+    ap reading (ap (take n) all ∙ take_at (wire_bytes x) (drop (length (wire_bytes x)) old) n (sym is)) ∙ reads x s light

@@ -30,11 +30,11 @@ refusal_number ReplyBuffer = 1
 refusal_number FrameLength = 3
 
 -- a codec fault: the letter C, its digit in ASCII, and the place of the byte that it speaks of
-abbrev pub codec : ℕ → ℕ → FaultCode
-codec n place = record { letter = 0x43; digit = 0x30 + n; place = place }
+abbrev pub codec_code : ℕ → ℕ → FaultCode
+codec_code n place = record { letter = 0x43; digit = 0x30 + n; place = place }
 
 abbrev pub fault_code : CodecFault → FaultCode
-fault_code RfuBit = codec 1 0
-fault_code NoService = codec 2 0
-fault_code NoMessage = codec 3 0
-fault_code WrongFields = codec 4 1
+fault_code RfuBit = codec_code 1 0
+fault_code NoService = codec_code 2 0
+fault_code NoMessage = codec_code 3 0
+fault_code WrongFields = codec_code 4 1

@@ -1,6 +1,6 @@
 ghost use Rattle.std.specs.Prelude.{◌≡◌, ◌==◌, position, ℕ, List, length, take, drop};
-ghost use Rattle.frame.specs.Frames.{parts, said_by, wire, error};
-ghost use Rattle.frame.specs.Details.{before_zero, detail as detail_of, EndsAtZero};
+ghost use Rattle.frame.specs.Frames.{parts_of, contents_of, wire_bytes, error};
+ghost use Rattle.frame.specs.Details.{part_before_zero, detail as detail_of, EndsAtZero};
 
 use super::types::{Body, Message};
 
@@ -20,7 +20,7 @@ fn first_zero(payload: &[u8]) -> Option<usize>
 // The bytes before the first zero, and none where there is no zero.
 #[tactic(auto, using(crate::proofs::Zeros::before_zero_found))]
 fn before_zero(payload: &[u8]) -> &[u8]
-    ensures { result.now ≡ before_zero payload.now }
+    ensures { result.now ≡ part_before_zero payload.now }
 {
     match first_zero(payload) {
         Some(end) => &payload[..end],
@@ -29,7 +29,7 @@ fn before_zero(payload: &[u8]) -> &[u8]
 }
 
 fn detail_bytes<'a>(body: &Body<'a>) -> &'a [u8]
-    ensures { result.now ≡ detail_of (said_by body.now) }
+    ensures { result.now ≡ detail_of (contents_of body.now) }
 {
     match body {
         Body::Error(payload) => before_zero(payload),
@@ -41,9 +41,9 @@ impl<'a> Message<'a> {
     /// What an ERROR says before its first 00; empty for any other message.
     pub fn detail(&self) -> Detail<'a>
         ensures place { result.place ≡ 1 }
-        ensures bytes { result.bytes.now ≡ detail_of (said_by self.now.body) }
-        ensures part { result.bytes.now ≡ take (length result.bytes.now) (drop result.place (wire (parts self.now))) }
-        ensures ends { (p : List ℕ) → said_by self.now.body ≡ error p → EndsAtZero p result.bytes.now }
+        ensures bytes { result.bytes.now ≡ detail_of (contents_of self.now.body) }
+        ensures part { result.bytes.now ≡ take (length result.bytes.now) (drop result.place (wire_bytes (parts_of self.now))) }
+        ensures ends { (p : List ℕ) → contents_of self.now.body ≡ error p → EndsAtZero p result.bytes.now }
     {
         Detail {
             place: 1,

@@ -1,12 +1,12 @@
 ghost use Rattle.std.specs.Prelude.{◌≡◌};
-ghost use Rattle.frame.specs.Reading.{reading, read as read_as, with_head, head, shaped, by_code, body_read};
+ghost use Rattle.frame.specs.Reading.{reading, reading_answered as read_as, reading_of_sep, sep_reading, contents_reading, coded_result, contents_result};
 ghost use Rattle.frame.specs.Writing.{WritesAgain};
 
 use super::faults::{CodecFault, ReadError, Refusal};
 use super::types::{Body, MAX_FRAME, Message, MessageKind, Service};
 
 fn read_sep(sep: u8) -> Result<(Service, MessageKind), CodecFault>
-    ensures { by_code result ≡ head sep }
+    ensures { coded_result result ≡ sep_reading sep }
 {
     if sep >> 6 != 0 {
         return Err(CodecFault::RfuBit);
@@ -17,7 +17,7 @@ fn read_sep(sep: u8) -> Result<(Service, MessageKind), CodecFault>
 }
 
 fn read_body(kind: MessageKind, rest: &[u8]) -> Result<Body<'_>, CodecFault>
-    ensures { body_read result ≡ shaped kind rest.now }
+    ensures { contents_result result ≡ contents_reading kind rest.now }
 {
     match kind {
         MessageKind::ActReq => match rest {
@@ -37,7 +37,7 @@ fn read_body(kind: MessageKind, rest: &[u8]) -> Result<Body<'_>, CodecFault>
 }
 
 fn read_fields(sep: u8, rest: &[u8]) -> Result<Message<'_>, ReadError>
-    ensures { read_as result ≡ with_head (head sep) rest.now }
+    ensures { read_as result ≡ reading_of_sep (sep_reading sep) rest.now }
 {
     let (service, kind) = read_sep(sep)?;
     let body = read_body(kind, rest)?;

@@ -1,7 +1,7 @@
 ghost use Rattle.std.specs.Prelude.{◌≡◌, Some};
 ghost use Rattle.frame.specs.Numbers.{service_code, message_code};
-ghost use Rattle.frame.specs.Frames.{said_by, kind_of, payload_of};
-ghost use Rattle.frame.specs.Reading.{service_read, message_read};
+ghost use Rattle.frame.specs.Frames.{contents_of, kind_of, payload_of};
+ghost use Rattle.frame.specs.Reading.{service_result, kind_result};
 ghost use Rattle.frame.specs.Words.{service_words, message_words};
 
 use super::faults::CodecFault;
@@ -31,7 +31,7 @@ impl Service {
 impl TryFrom<u8> for Service {
     type Error = CodecFault;
 
-    ghost try_from_gives = { λ code r. r ≡ service_read code };
+    ghost try_from_gives = { λ code r. r ≡ service_result code };
 
     fn try_from(code: u8) -> Result<Self, CodecFault> {
         match code {
@@ -78,7 +78,7 @@ impl MessageKind {
 impl TryFrom<u8> for MessageKind {
     type Error = CodecFault;
 
-    ghost try_from_gives = { λ code r. r ≡ message_read code };
+    ghost try_from_gives = { λ code r. r ≡ kind_result code };
 
     fn try_from(code: u8) -> Result<Self, CodecFault> {
         match code {
@@ -134,7 +134,7 @@ pub struct Message<'a> {
 impl<'a> Body<'a> {
     /// Which message it is.
     pub fn kind(&self) -> MessageKind
-        ensures { result ≡ kind_of (said_by self.now) }
+        ensures { result ≡ kind_of (contents_of self.now) }
     {
         match self {
             Body::ActReq(_, _) => MessageKind::ActReq,
@@ -149,7 +149,7 @@ impl<'a> Body<'a> {
 
     /// The payload, without the PID.
     pub fn payload(&self) -> &'a [u8]
-        ensures { result.now ≡ payload_of (said_by self.now) }
+        ensures { result.now ≡ payload_of (contents_of self.now) }
     {
         match self {
             Body::ActReq(_, payload)

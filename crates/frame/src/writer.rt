@@ -1,7 +1,7 @@
 ghost use Rattle.std.specs.Prelude.{◌≡◌, ◌+◌, ◌<◌, ◌≤◌, not, ◌||◌, ◌++◌, length, nat_lt};
-ghost use Rattle.frame.specs.Frames.{parts, sep as sep_of, said_by, fields, wire};
-ghost use Rattle.buffers.specs.Buffers.{over, length_answer, written};
-ghost use Rattle.frame.specs.Writing.{writing, numbered, laden, ReadsBack};
+ghost use Rattle.frame.specs.Frames.{parts_of, sep as sep_of, contents_of, bytes_after_sep, wire_bytes};
+ghost use Rattle.buffers.specs.Buffers.{with_front, length_result, buffer_after};
+ghost use Rattle.frame.specs.Writing.{writing_result, numbered_result, is_tmn_with_payload, ReadsBack};
 
 use super::faults::Refusal;
 use super::types::{Body, MAX_FRAME, Message, MessageKind, Service};
@@ -14,7 +14,7 @@ fn sep(service: Service, kind: MessageKind) -> u8
 
 // Is there a frame of it: short enough, and no payload in TMN.
 fn has_frame(body: &Body<'_>) -> bool
-    ensures { result ≡ not (nat_lt 254 (length (fields (said_by body.now))) || laden (said_by body.now)) }
+    ensures { result ≡ not (nat_lt 254 (length (bytes_after_sep (contents_of body.now))) || is_tmn_with_payload (contents_of body.now)) }
 {
     match body {
         Body::ActReq(_, payload) => payload.len() + 2 <= MAX_FRAME,
@@ -28,7 +28,7 @@ fn has_frame(body: &Body<'_>) -> bool
 fn put_frame(head: &[u8], payload: &[u8], out: &mut [u8]) -> usize
     requires { length head.now + length payload.now ≤ length out.old }
     ensures answer { result ≡ length (head.now ++ payload.now) }
-    ensures bytes { out.new ≡ over (head.now ++ payload.now) out.old }
+    ensures bytes { out.new ≡ with_front (head.now ++ payload.now) out.old }
 {
     let start = head.len();
     let end = start + payload.len();
@@ -38,9 +38,9 @@ fn put_frame(head: &[u8], payload: &[u8], out: &mut [u8]) -> usize
 }
 
 fn put(message: &Message<'_>, out: &mut [u8]) -> usize
-    requires { length (fields (said_by message.now.body)) < length out.old }
-    ensures answer { result ≡ length (wire (parts message.now)) }
-    ensures bytes { out.new ≡ over (wire (parts message.now)) out.old }
+    requires { length (bytes_after_sep (contents_of message.now.body)) < length out.old }
+    ensures answer { result ≡ length (wire_bytes (parts_of message.now)) }
+    ensures bytes { out.new ≡ with_front (wire_bytes (parts_of message.now)) out.old }
 {
     let sep = sep(message.service, message.body.kind());
     match message.body {
@@ -51,9 +51,9 @@ fn put(message: &Message<'_>, out: &mut [u8]) -> usize
 
 /// Writes the frame of a message to the front of `out`, and answers its length.
 pub fn write(message: &Message<'_>, out: &mut [u8]) -> Result<usize, Refusal>
-    ensures answer { numbered result ≡ length_answer (writing (parts message.now) (length out.old)) }
-    ensures bytes { out.new ≡ written (writing (parts message.now) (length out.old)) out.old }
-    ensures back { ReadsBack (parts message.now) result out.new }
+    ensures answer { numbered_result result ≡ length_result (writing_result (parts_of message.now) (length out.old)) }
+    ensures bytes { out.new ≡ buffer_after (writing_result (parts_of message.now) (length out.old)) out.old }
+    ensures back { ReadsBack (parts_of message.now) result out.new }
 {
     if out.len() < MAX_FRAME {
         return Err(Refusal::ReplyBuffer);

@@ -2,7 +2,7 @@
 use super::log::Made;
 use super::stopped::Stopped;
 use entity::Entity;
-use replay::{Entry, Logged, Record, Way, handed_count, replay};
+use replay::{Direction, Entry, Logged, SessionRecord, handed_count, replay};
 use std::alloc::{AllocError, Global};
 use suite::Suite;
 
@@ -17,14 +17,14 @@ fn calls(alloc: Global, log: &[Made]) -> Result<Vec<Logged<'_>>, AllocError> {
     log.iter().map(|made| made.logged()).collect(alloc)
 }
 
-fn show(rt: &HostRuntime, name: &str, record: &Record) -> Result<(), Stopped> {
+fn show(rt: &HostRuntime, name: &str, record: &SessionRecord) -> Result<(), Stopped> {
     let session = record.session;
-    let way = match record.way {
-        Way::Sent => "sent",
-        Way::Handed => "handed",
+    let direction = match record.direction {
+        Direction::Sent => "sent",
+        Direction::Handed => "handed",
     };
     let bytes = hex_text::encode(rt.alloc(), record.plain.bytes())?;
-    Ok(println!(rt; "  {name}, session {session}: {way} {bytes}")?)
+    Ok(println!(rt; "  {name}, session {session}: {direction} {bytes}")?)
 }
 
 fn show_records(rt: &HostRuntime, name: &str, entries: &[Entry]) -> Result<(), Stopped> {

@@ -1,2 +1,2 @@
-pub mod Backs
-pub mod Turns
+pub mod RoundTrips
+pub mod DecodeSteps

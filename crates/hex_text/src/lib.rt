@@ -2,7 +2,7 @@
 #![tactic(auto)]
 
 ghost use Rattle.std.specs.Prelude.{◌≡◌, IfOk, Ok, Some, vec_items, string_bytes};
-ghost use Rattle.hex_text.specs.Hex.{value as value_of, blank, byte as byte_of, spelled, decoded, Decodes};
+ghost use Rattle.hex_text.specs.Hex.{digit_value as value_of, is_blank, byte_of_digits as byte_of, digits_of, bytes_of, Decodes};
 ghost use Rattle.hex_text.specs.Words.{error_words};
 ghost use Rattle.hex_text.specs.declared.HexError.TheVariants.{NoMemory};
 
@@ -46,7 +46,7 @@ impl<T: Drop> From<AllocFailed<T>> for HexError {
 }
 
 fn is_blank(c: u8) -> bool
-    ensures { result ≡ blank c }
+    ensures { result ≡ is_blank c }
 {
     matches!(c, b' ' | b'\t' | b'\r')
 }
@@ -70,7 +70,7 @@ fn byte(high: u8, low: u8) -> Option<u8>
 }
 
 /// Reads a line of bytes.
-#[tactic(auto, using(crate::proofs::Turns::skips, crate::proofs::Turns::takes))]
+#[tactic(auto, using(crate::proofs::DecodeSteps::skips, crate::proofs::DecodeSteps::takes))]
 pub fn decode(heap: Global, text: &[u8]) -> Result<Vec<u8>, HexError>
     ensures { Decodes vec_items text.now result }
 {
@@ -92,10 +92,10 @@ pub fn decode(heap: Global, text: &[u8]) -> Result<Vec<u8>, HexError>
 
 /// Writes bytes as capital digits, two to a byte, with nothing between. By the library's format: a second crate for hexadecimal digits
 /// would say the same in one line too.
-#[tactic(auto, using(crate::proofs::Backs::two_capitals, crate::proofs::Backs::spelled_more))]
+#[tactic(auto, using(crate::proofs::RoundTrips::two_capitals, crate::proofs::RoundTrips::spelled_more))]
 pub fn encode(heap: Global, bytes: &[u8]) -> Result<String, AllocError>
-    ensures text { IfOk result (λ t. string_bytes t ≡ spelled bytes.now) }
-    ensures back { IfOk result (λ t. decoded (string_bytes t) ≡ Ok bytes.now) }
+    ensures text { IfOk result (λ t. string_bytes t ≡ digits_of bytes.now) }
+    ensures back { IfOk result (λ t. bytes_of (string_bytes t) ≡ Ok bytes.now) }
 {
     let mut text = String::new(heap);
     for b in bytes {

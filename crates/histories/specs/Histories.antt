@@ -1,17 +1,17 @@
 -- What a history of calls tells: keys reported, link sessions, records.
 use Rattle.std.specs.Prelude.{◌≡◌, ℕ, ◌<◌, Bool, true, false, cond, ◌||◌, List, [], ◌∷◌, ◌++◌, Ok, Err, Result, ◌==◌}
-use Rattle.suite.specs.Meanings.{WellFormed}
+use Rattle.suite.specs.Meanings.{IsWellFormed}
 use Rattle.suite.specs.Schemes.{Scheme}
 use Rattle.protocol.specs.declared.states.State.TheVariants.{Idle}
 use Rattle.protocol.specs.declared.refusals.Refusal.{Refusal}
 use Rattle.protocol.specs.declared.outcomes.Outcome.{Outcome}
 use Rattle.protocol.specs.Numbers.{confirmation_number}
 use Rattle.protocol.specs.Models.{Model}
-use Rattle.protocol.specs.Calls.{Call, invoke, send, retrieve_data, retrieve_secret, terminate, frame, release, Turn, turn}
+use Rattle.protocol.specs.Calls.{Call, invoke, send, retrieve_data, retrieve_secret, terminate, frame, release, CallEffect, call_effect}
 
 -- an entity in Idle over a well-formed suite, with no key and nothing held
-pub record Fresh (m : Model) : Type 0 where
-  pub formed : WellFormed m.means
+pub record IsFresh (m : Model) : Type 0 where
+  pub formed : IsWellFormed m.means
   pub idle : m.state ≡ Idle
   pub no_live : m.means.live ≡ []
   pub no_secret : m.secret ≡ 0
@@ -28,127 +28,127 @@ pub record Entry : Type 0 where
 abbrev pub History : Type 0
 History = List Entry
 
-abbrev pub after : Scheme → Model → List Call → Model
-after s m [] = m
-after s m (c ∷ before) = (turn s (after s m before) c).model
+abbrev pub entity_after : Scheme → Model → List Call → Model
+entity_after s m [] = m
+entity_after s m (c ∷ before) = (call_effect s (entity_after s m before) c).model
 
-abbrev pub entered : Call → Turn → Entry
-entered c t = record { call = c; answer = t.answer; written = t.reply }
+abbrev pub entry_of : Call → CallEffect → Entry
+entry_of c t = record { call = c; answer = t.answer; written = t.reply }
 
 abbrev pub history : Scheme → Model → List Call → History
 history s m [] = []
-history s m (c ∷ before) = entered c (turn s (after s m before) c) ∷ history s m before
+history s m (c ∷ before) = entry_of c (call_effect s (entity_after s m before) c) ∷ history s m before
 
 -- Keys reported, the oldest first.
 
 -- a serial in an outcome; 0 is none
-abbrev pub listed : ℕ → List ℕ
-listed n = cond (n == 0) [] (n ∷ [])
+abbrev pub serial_list : ℕ → List ℕ
+serial_list n = cond (n == 0) [] (n ∷ [])
 
-abbrev pub made_in : Result Outcome Refusal → List ℕ
-made_in (Err r) = []
-made_in (Ok o) = listed o.made
+abbrev pub serials_made_in : Result Outcome Refusal → List ℕ
+serials_made_in (Err r) = []
+serials_made_in (Ok o) = serial_list o.made
 
-abbrev pub destroyed_in : Result Outcome Refusal → List ℕ
-destroyed_in (Err r) = []
-destroyed_in (Ok o) = listed o.destroyed.link ++ listed o.destroyed.secret
+abbrev pub serials_destroyed_in : Result Outcome Refusal → List ℕ
+serials_destroyed_in (Err r) = []
+serials_destroyed_in (Ok o) = serial_list o.destroyed.link ++ serial_list o.destroyed.secret
 
-abbrev pub made : History → List ℕ
-made [] = []
-made (e ∷ h) = made h ++ made_in e.answer
+abbrev pub serials_made : History → List ℕ
+serials_made [] = []
+serials_made (e ∷ h) = serials_made h ++ serials_made_in e.answer
 
-abbrev pub destroyed : History → List ℕ
-destroyed [] = []
-destroyed (e ∷ h) = destroyed h ++ destroyed_in e.answer
+abbrev pub serials_destroyed : History → List ℕ
+serials_destroyed [] = []
+serials_destroyed (e ∷ h) = serials_destroyed h ++ serials_destroyed_in e.answer
 
-abbrev pub member : ℕ → List ℕ → Bool
-member n [] = false
-member n (x ∷ xs) = n == x || member n xs
+abbrev pub is_member : ℕ → List ℕ → Bool
+is_member n [] = false
+is_member n (x ∷ xs) = n == x || is_member n xs
 
 -- the numbers of the first list that do not stand in the second
-abbrev pub less : List ℕ → List ℕ → List ℕ
-less [] ys = []
-less (x ∷ xs) ys = cond (member x ys) (less xs ys) (x ∷ less xs ys)
+abbrev pub difference : List ℕ → List ℕ → List ℕ
+difference [] ys = []
+difference (x ∷ xs) ys = cond (is_member x ys) (difference xs ys) (x ∷ difference xs ys)
 
 -- no number stands twice
-abbrev pub Distinct : List ℕ → Type 0
-Distinct [] = Unit {0}
-Distinct (x ∷ xs) = (member x xs ≡ false) × Distinct xs
+abbrev pub IsDistinct : List ℕ → Type 0
+IsDistinct [] = Unit {0}
+IsDistinct (x ∷ xs) = (is_member x xs ≡ false) × IsDistinct xs
 
 -- Link sessions.
 
-abbrev pub confirms : ℕ → Result Outcome Refusal → Bool
-confirms n (Err r) = false
-confirms n (Ok o) = confirmation_number o.confirmation == n
+abbrev pub has_confirmation : ℕ → Result Outcome Refusal → Bool
+has_confirmation n (Err r) = false
+has_confirmation n (Ok o) = confirmation_number o.confirmation == n
 
 -- the link key of the session that an answer starts: made with confirmation 1; 0 if it starts none
-abbrev pub started_by : Result Outcome Refusal → ℕ
-started_by (Err r) = 0
-started_by (Ok o) = cond (confirmation_number o.confirmation == 1) o.made 0
+abbrev pub session_started : Result Outcome Refusal → ℕ
+session_started (Err r) = 0
+session_started (Ok o) = cond (confirmation_number o.confirmation == 1) o.made 0
 
 -- after the history the link session with link key n runs, and these calls were made in it since its start
 pub data Runs (n : ℕ) : History → History → Type 0 where
-  starts : {e : Entry} {h : History} → 0 < n → started_by e.answer ≡ n → Runs n (e ∷ h) []
-  goes_on : {e : Entry} {h since : History} → Runs n h since → member n (destroyed_in e.answer) ≡ false → Runs n (e ∷ h) (e ∷ since)
+  starts : {e : Entry} {h : History} → 0 < n → session_started e.answer ≡ n → Runs n (e ∷ h) []
+  goes_on : {e : Entry} {h since : History} → Runs n h since → is_member n (serials_destroyed_in e.answer) ≡ false → Runs n (e ∷ h) (e ∷ since)
 
 -- some link session runs
-abbrev pub Running : History → Type 0
-Running h = (n : ℕ) × ((since : History) × Runs n h since)
+abbrev pub SomeRuns : History → Type 0
+SomeRuns h = (n : ℕ) × ((since : History) × Runs n h since)
 
 -- Records, the oldest first.
 
-abbrev pub given : Call → List (List ℕ)
-given (invoke service pid seed room) = []
-given (send plain room) = plain ∷ []
-given (retrieve_data room) = []
-given (retrieve_secret room) = []
-given (terminate room) = []
-given (frame bytes beside room) = []
-given release = []
+abbrev pub data_given : Call → List (List ℕ)
+data_given (invoke service pid seed room) = []
+data_given (send plain room) = plain ∷ []
+data_given (retrieve_data room) = []
+data_given (retrieve_secret room) = []
+data_given (terminate room) = []
+data_given (frame bytes beside room) = []
+data_given release = []
 
-abbrev pub heard_by : Call → List (List ℕ)
-heard_by (invoke service pid seed room) = []
-heard_by (send plain room) = []
-heard_by (retrieve_data room) = []
-heard_by (retrieve_secret room) = []
-heard_by (terminate room) = []
-heard_by (frame bytes beside room) = bytes ∷ []
-heard_by release = []
+abbrev pub frame_given : Call → List (List ℕ)
+frame_given (invoke service pid seed room) = []
+frame_given (send plain room) = []
+frame_given (retrieve_data room) = []
+frame_given (retrieve_secret room) = []
+frame_given (terminate room) = []
+frame_given (frame bytes beside room) = bytes ∷ []
+frame_given release = []
 
 -- the data of a record sent: a send with confirmation 2
-abbrev pub sent_in : Entry → List (List ℕ)
-sent_in e = cond (confirms 2 e.answer) (given e.call) []
+abbrev pub data_sent_in : Entry → List (List ℕ)
+data_sent_in e = cond (has_confirmation 2 e.answer) (data_given e.call) []
 
 -- the frame of a record taken in: a frame with confirmation 3
-abbrev pub taken_in : Entry → List (List ℕ)
-taken_in e = cond (confirms 3 e.answer) (heard_by e.call) []
+abbrev pub frames_received_in : Entry → List (List ℕ)
+frames_received_in e = cond (has_confirmation 3 e.answer) (frame_given e.call) []
 
-abbrev pub sent : History → List (List ℕ)
-sent [] = []
-sent (e ∷ h) = sent h ++ sent_in e
+abbrev pub data_sent : History → List (List ℕ)
+data_sent [] = []
+data_sent (e ∷ h) = data_sent h ++ data_sent_in e
 
-abbrev pub taken : History → List (List ℕ)
-taken [] = []
-taken (e ∷ h) = taken h ++ taken_in e
+abbrev pub frames_received : History → List (List ℕ)
+frames_received [] = []
+frames_received (e ∷ h) = frames_received h ++ frames_received_in e
 
-abbrev pub answers : Result Outcome Refusal → Bool
-answers (Err r) = false
-answers (Ok o) = true
+abbrev pub is_answered : Result Outcome Refusal → Bool
+is_answered (Err r) = false
+is_answered (Ok o) = true
 
 -- a call that hands data out: retrieve data, not refused
-abbrev pub hands : Result Outcome Refusal → Call → Bool
-hands a (invoke service pid seed room) = false
-hands a (send plain room) = false
-hands a (retrieve_data room) = answers a
-hands a (retrieve_secret room) = false
-hands a (terminate room) = false
-hands a (frame bytes beside room) = false
-hands a release = false
+abbrev pub is_retrieved_by : Result Outcome Refusal → Call → Bool
+is_retrieved_by a (invoke service pid seed room) = false
+is_retrieved_by a (send plain room) = false
+is_retrieved_by a (retrieve_data room) = is_answered a
+is_retrieved_by a (retrieve_secret room) = false
+is_retrieved_by a (terminate room) = false
+is_retrieved_by a (frame bytes beside room) = false
+is_retrieved_by a release = false
 
-abbrev pub handing : Entry → Bool
-handing e = hands e.answer e.call
+abbrev pub is_retrieval : Entry → Bool
+is_retrieval e = is_retrieved_by e.answer e.call
 
 -- the data handed out
-abbrev pub handed : History → List (List ℕ)
-handed [] = []
-handed (e ∷ h) = handed h ++ cond (handing e) (e.written ∷ []) []
+abbrev pub data_handed : History → List (List ℕ)
+data_handed [] = []
+data_handed (e ∷ h) = data_handed h ++ cond (is_retrieval e) (e.written ∷ []) []

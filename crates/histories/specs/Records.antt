@@ -2,53 +2,53 @@
 use Rattle.std.specs.Prelude.{◌≡◌, ℕ, true, cond, ◌&&◌, ◌⊎◌, List, [], ◌∷◌, ◌++◌, map, Result, ◌==◌}
 use Rattle.protocol.specs.declared.outcomes.Outcome.{Outcome}
 use Rattle.protocol.specs.declared.refusals.Refusal.{Refusal}
-use Rattle.histories.specs.Histories.{Entry, History, started_by, destroyed_in, member, Runs, sent_in, handing}
+use Rattle.histories.specs.Histories.{Entry, History, session_started, serials_destroyed_in, is_member, Runs, data_sent_in, is_retrieval}
 
 -- the session that runs after a call, by its answer and the session that ran before: 0 for none
 abbrev pub next_session : ℕ → Result Outcome Refusal → ℕ
-next_session n answer = cond (started_by answer == 0) (cond (member n (destroyed_in answer)) 0 n) (started_by answer)
+next_session n answer = cond (session_started answer == 0) (cond (is_member n (serials_destroyed_in answer)) 0 n) (session_started answer)
 
 -- the link key of the session that runs after a history, 0 where none does
-abbrev pub link_in : History → ℕ
-link_in [] = 0
-link_in (e ∷ h) = next_session (link_in h) e.answer
+abbrev pub running_session : History → ℕ
+running_session [] = 0
+running_session (e ∷ h) = next_session (running_session h) e.answer
 
 -- after the history the link session with link key n is over, and these calls were made in it; the last reports the link key destroyed
-pub data Over (n : ℕ) : History → History → Type 0 where
-  ends : {e : Entry} {h since : History} → Runs n h since → member n (destroyed_in e.answer) ≡ true → Over n (e ∷ h) (e ∷ since)
-  stays : {e : Entry} {h since : History} → Over n h since → Over n (e ∷ h) since
+pub data HasEnded (n : ℕ) : History → History → Type 0 where
+  ends : {e : Entry} {h since : History} → Runs n h since → is_member n (serials_destroyed_in e.answer) ≡ true → HasEnded n (e ∷ h) (e ∷ since)
+  stays : {e : Entry} {h since : History} → HasEnded n h since → HasEnded n (e ∷ h) since
 
 -- in the history there was a link session with link key n: it runs or is over
-abbrev pub Session : ℕ → History → Type 0
-Session n h = (since : History) × (Runs n h since ⊎ Over n h since)
+abbrev pub HasSession : ℕ → History → Type 0
+HasSession n h = (since : History) × (Runs n h since ⊎ HasEnded n h since)
 
 -- what became of the data of a record
-pub data Way : Type 0 where
-  was_sent : Way
-  was_handed : Way
+pub data Direction : Type 0 where
+  was_sent : Direction
+  was_handed : Direction
 
 -- a record that a user sent, or that a user was handed, in the session of that link key
-pub record Charge : Type 0 where
+pub record SessionRecord : Type 0 where
   pub session : ℕ
-  pub way : Way
+  pub direction : Direction
   pub plain : List ℕ
 
-abbrev pub charged_in : ℕ → Entry → List Charge
-charged_in session e =
-    map (λ plain. record { session = session; way = was_sent; plain = plain }) (sent_in e)
-    ++ cond (handing e) (record { session = session; way = was_handed; plain = e.written } ∷ []) []
+abbrev pub records_in : ℕ → Entry → List SessionRecord
+records_in session e =
+    map (λ plain. record { session = session; direction = was_sent; plain = plain }) (data_sent_in e)
+    ++ cond (is_retrieval e) (record { session = session; direction = was_handed; plain = e.written } ∷ []) []
 
 -- the records of a history, the oldest first
-abbrev pub charges : History → List Charge
-charges [] = []
-charges (e ∷ h) = charges h ++ charged_in (link_in h) e
+abbrev pub session_records : History → List SessionRecord
+session_records [] = []
+session_records (e ∷ h) = session_records h ++ records_in (running_session h) e
 
 -- a number for each way
-abbrev pub way_mark : Way → ℕ
-way_mark was_sent = 0
-way_mark was_handed = 1
+abbrev pub direction_number : Direction → ℕ
+direction_number was_sent = 0
+direction_number was_handed = 1
 
 -- the data of the records of the session with link key n that went that way
-abbrev pub those : ℕ → Way → List Charge → List (List ℕ)
-those n way [] = []
-those n way (c ∷ cs) = cond (c.session == n && way_mark c.way == way_mark way) (c.plain ∷ those n way cs) (those n way cs)
+abbrev pub data_of : ℕ → Direction → List SessionRecord → List (List ℕ)
+data_of n direction [] = []
+data_of n direction (c ∷ cs) = cond (c.session == n && direction_number c.direction == direction_number direction) (c.plain ∷ data_of n direction cs) (data_of n direction cs)

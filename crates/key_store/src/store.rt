@@ -1,5 +1,5 @@
 ghost use Rattle.std.specs.Prelude.{◌≡◌, ◌^◌, ◌<◌, true, is_some};
-ghost use Rattle.key_store.specs.Places.{Within, Older};
+ghost use Rattle.key_store.specs.Places.{HasSerialsTo, IsOlder};
 
 use super::place::Place;
 
@@ -16,7 +16,7 @@ pub struct KeyStore {
     second: Place,
     ghost fits: { newest < 2 ^ 32 },
     ghost packed: { (is_some second.label ≡ true → is_some first.label ≡ true) },
-    ghost firsts: { Within newest first },
-    ghost seconds: { Within newest second },
-    ghost ordered: { Older first second },
+    ghost firsts: { HasSerialsTo newest first },
+    ghost seconds: { HasSerialsTo newest second },
+    ghost ordered: { IsOlder first second },
 }

@@ -5,7 +5,7 @@ use Rattle.cmac.specs.Cmac.{cmac}
 use Rattle.suite.specs.declared.types.Role.TheVariants.{Sender}
 use Rattle.suite.specs.Numbers.{role_byte}
 use Rattle.suite_of.specs.Payloads.{four_bytes}
-use Rattle.suite_of.specs.Kinds.{Functions}
+use Rattle.suite_of.specs.Kinds.{KindFunctions}
 
 -- the tag, under the root, of the Sender's offer and then the Recipient's
 abbrev pub secret_of : List ℕ → ℕ → List ℕ → List ℕ → List ℕ
@@ -18,14 +18,14 @@ abbrev pub stream_key : List ℕ → List ℕ
 stream_key link = cmac link (replicate 16 5)
 
 -- what is encrypted for the block j of a record's keystream
-abbrev pub counter : ℕ → ℕ → ℕ → List ℕ
-counter role n j = role ∷ (four_bytes n ++ (replicate 7 0 ++ four_bytes j))
+abbrev pub counter_block : ℕ → ℕ → ℕ → List ℕ
+counter_block role n j = role ∷ (four_bytes n ++ (replicate 7 0 ++ four_bytes j))
 
 -- the byte i of a record's keystream; ws is the schedule of the stream key
-abbrev pub keystream : List ℕ → ℕ → ℕ → ℕ → ℕ
-keystream ws role n i = slice_index (cipher_with ws (counter role n (i / 16))) (i % 16)
+abbrev pub keystream_byte : List ℕ → ℕ → ℕ → ℕ → ℕ
+keystream_byte ws role n i = slice_index (cipher_with ws (counter_block role n (i / 16))) (i % 16)
 
-abbrev pub keyed_functions : Functions
+abbrev pub keyed_functions : KindFunctions
 keyed_functions = record {
   pid = 0xF1;
   check_length = 8;
@@ -34,6 +34,6 @@ keyed_functions = record {
   secret_of = secret_of;
   check_of = λ value role. take 8 (cmac value (role ∷ replicate 15 0));
   link_of = λ value. cmac value (replicate 16 3);
-  stream_of = λ link role n i. keystream (schedule (stream_key link)) role n i;
+  stream_of = λ link role n i. keystream_byte (schedule (stream_key link)) role n i;
   field_of = λ link body. take 8 (cmac (tag_key link) body);
 }

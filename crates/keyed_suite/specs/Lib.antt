@@ -1,2 +1,2 @@
 pub mod Keyed
-pub mod KeyedLaws
+pub mod KeyedProofs

@@ -1,6 +1,6 @@
 ghost use Rattle.std.specs.Prelude.{◌≡◌};
 ghost use Rattle.keyed_suite.specs.Keyed.{keyed_functions};
-ghost use Rattle.keyed_suite.specs.KeyedLaws.{keyed_sound};
+ghost use Rattle.keyed_suite.specs.KeyedProofs.{keyed_lawful};
 
 use super::stream::add_stream;
 use aes128::Aes128;
@@ -26,7 +26,7 @@ pub type KeyedSuite = SuiteOf<KeyedKind>;
 impl Kind for KeyedKind {
     ghost functions = { keyed_functions };
 
-    ghost sound = { keyed_sound };
+    ghost sound = { keyed_lawful };
 
     fn numbers() -> KindNumbers {
         NUMBERS

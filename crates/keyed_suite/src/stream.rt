@@ -1,15 +1,15 @@
 ghost use Rattle.std.specs.Prelude.{◌≡◌};
 ghost use Rattle.aes128.specs.Keys.{words_of};
 ghost use Rattle.suite.specs.Numbers.{role_byte};
-ghost use Rattle.suite_of.specs.Streams.{streamed};
-ghost use Rattle.keyed_suite.specs.Keyed.{counter, keystream};
+ghost use Rattle.suite_of.specs.Streams.{xor_stream};
+ghost use Rattle.keyed_suite.specs.Keyed.{counter_block, keystream_byte};
 
 use aes128::Aes128;
 use suite::Role;
 
 // What is encrypted for the block j of a record's keystream; of j the last four bytes count.
 fn counter(role: Role, number: u32, j: usize) -> [u8; 16]
-    ensures { result ≡ counter (role_byte role) number j }
+    ensures { result ≡ counter_block (role_byte role) number j }
 {
     let [a, b, c, d] = number.to_be_bytes();
     let [.., e, f, g, h] = j.to_be_bytes();
@@ -18,7 +18,7 @@ fn counter(role: Role, number: u32, j: usize) -> [u8; 16]
 
 // XORs the keystream of a record into its data.
 pub(super) fn add_stream(cipher: &Aes128, role: Role, number: u32, bytes: &mut [u8])
-    ensures { bytes.new ≡ streamed (keystream (words_of cipher.now) (role_byte role) number) 0 bytes.old }
+    ensures { bytes.new ≡ xor_stream (keystream_byte (words_of cipher.now) (role_byte role) number) 0 bytes.old }
 {
     let mut block = [0; 16];
     for (i, byte) in bytes.iter_mut().enumerate() {

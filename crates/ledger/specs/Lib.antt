@@ -1,5 +1,5 @@
 pub mod Ledgers
 pub mod Rows
 pub mod Tables
-pub mod ToldLaws
+pub mod RowProofs
 pub mod Words

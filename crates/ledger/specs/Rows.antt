@@ -23,45 +23,45 @@ abbrev pub live_row : ℕ → KeyKind → Row
 live_row serial kind = record { serial = serial; kind = kind; mark = Live }
 
 -- the row of a key after it was destroyed: only the mark is another
-abbrev pub marked : Row → Row
-marked r = record { serial = r.serial; kind = r.kind; mark = Destroyed }
+abbrev pub destroyed_row : Row → Row
+destroyed_row r = record { serial = r.serial; kind = r.kind; mark = Destroyed }
 
 -- the row of a serial marked, and no other; no row changes where none has that serial
-abbrev pub struck : ℕ → List Row → List Row
-struck n [] = []
-struck n (r ∷ rs) = cond (r.serial == n) (marked r ∷ rs) (r ∷ struck n rs)
+abbrev pub rows_with_mark : ℕ → List Row → List Row
+rows_with_mark n [] = []
+rows_with_mark n (r ∷ rs) = cond (r.serial == n) (destroyed_row r ∷ rs) (r ∷ rows_with_mark n rs)
 
 -- a row of that serial
 abbrev pub has_serial : ℕ → Row → Bool
 has_serial n r = r.serial == n
 
 -- the rows after a call that makes a key, by its answer: one more for the serial answered
-abbrev pub entered : KeyKind → Result ℕ Denial → List Row → List Row
-entered kind (Ok serial) rows = rows ++ (live_row serial kind ∷ [])
-entered kind (Err e) rows = rows
+abbrev pub rows_after_making : KeyKind → Result ℕ Denial → List Row → List Row
+rows_after_making kind (Ok serial) rows = rows ++ (live_row serial kind ∷ [])
+rows_after_making kind (Err e) rows = rows
 
 -- the rows after a call that destroys a key, by its answer
-abbrev pub struck_by : ℕ → Result (Unit {0}) Denial → List Row → List Row
-struck_by key (Ok u) rows = struck key rows
-struck_by key (Err e) rows = rows
+abbrev pub rows_after_destroying : ℕ → Result (Unit {0}) Denial → List Row → List Row
+rows_after_destroying key (Ok u) rows = rows_with_mark key rows
+rows_after_destroying key (Err e) rows = rows
 
 -- the serials of the rows follow one another from n on
-abbrev pub Following : ℕ → List Row → Type 0
-Following n [] = Unit {0}
-Following n (r ∷ rs) = (r.serial ≡ n) × Following (n + 1) rs
+abbrev pub HasSerialsFrom : ℕ → List Row → Type 0
+HasSerialsFrom n [] = Unit {0}
+HasSerialsFrom n (r ∷ rs) = (r.serial ≡ n) × HasSerialsFrom (n + 1) rs
 
 -- what a mark says of the key of a kind and serial: it is live; or it is not
-abbrev pub Says : RowMark → List Key → KeyKind → ℕ → Type 0
-Says Live keys kind n = is_some (value_in keys kind n) ≡ true
-Says Destroyed keys kind n = is_live keys n ≡ false
+abbrev pub MarkHolds : RowMark → List Key → KeyKind → ℕ → Type 0
+MarkHolds Live keys kind n = is_some (value_in keys kind n) ≡ true
+MarkHolds Destroyed keys kind n = is_live keys n ≡ false
 
 -- what the mark of a row says of its key is so
-abbrev pub TrueOf : List Key → Row → Type 0
-TrueOf keys r = Says r.mark keys r.kind r.serial
+abbrev pub IsTrueRow : List Key → Row → Type 0
+IsTrueRow keys r = MarkHolds r.mark keys r.kind r.serial
 
 -- The rows of a ledger, by what it means: one for each of the keys made last, in the order made. A row is marked live
 -- just where its key is, and has its kind then.
-pub record Told (m : Meaning) (rows : List Row) : Type 0 where
+pub record TellsKeys (m : Meaning) (rows : List Row) : Type 0 where
   pub count : length rows ≤ m.newest
-  pub order : Following (m.newest - length rows + 1) rows
-  pub marks : AllByRecursion (TrueOf m.live) rows
+  pub order : HasSerialsFrom (m.newest - length rows + 1) rows
+  pub marks : AllByRecursion (IsTrueRow m.live) rows

@@ -4,5 +4,5 @@ use Rattle.ledger.specs.declared.row.Row.{Row}
 use Rattle.ledger.specs.declared.table.Table.{Table}
 
 -- the rows, in the order in which they were entered
-abbrev pub rows_in : Table → List Row
-rows_in t = t.rows.items
+abbrev pub table_rows : Table → List Row
+table_rows t = t.rows.items

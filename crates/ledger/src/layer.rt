@@ -1,8 +1,8 @@
 ghost use Rattle.std.specs.Prelude.{◌≡◌, ◌+◌, length};
 ghost use Rattle.quota.specs.Allowances.{quota_meaning};
-ghost use Rattle.ledger.specs.Rows.{Told};
-ghost use Rattle.ledger.specs.Tables.{rows_in};
-ghost use Rattle.ledger.specs.ToldLaws.{Told-prop};
+ghost use Rattle.ledger.specs.Rows.{TellsKeys};
+ghost use Rattle.ledger.specs.Tables.{table_rows};
+ghost use Rattle.ledger.specs.RowProofs.{TellsKeys-prop};
 
 use crate::table::Table;
 use quota::Quota;
@@ -15,6 +15,6 @@ mod calls;
 pub struct Ledger<S: HasMeaning> {
     below: Quota<S>,
     table: Table,
-    ghost unused: { below.left + length (rows_in table) ≡ 32 },
-    ghost told: { Told (quota_meaning S.meaning below) (rows_in table) } by { Told-prop (quota_meaning S.meaning below) (rows_in table) },
+    ghost unused: { below.left + length (table_rows table) ≡ 32 },
+    ghost told: { TellsKeys (quota_meaning S.meaning below) (table_rows table) } by { TellsKeys-prop (quota_meaning S.meaning below) (table_rows table) },
 }

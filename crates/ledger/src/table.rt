@@ -1,7 +1,7 @@
 ghost use Rattle.std.specs.Prelude.{◌≡◌, ◌<◌, [], ◌∷◌, ◌++◌, length};
 ghost use Rattle.std.specs.List.{position};
-ghost use Rattle.ledger.specs.Rows.{live_row, marked, struck, has_serial};
-ghost use Rattle.ledger.specs.Tables.{rows_in};
+ghost use Rattle.ledger.specs.Rows.{live_row, destroyed_row, rows_with_mark, has_serial};
+ghost use Rattle.ledger.specs.Tables.{table_rows};
 
 use crate::row::{Row, RowMark};
 use arrayvec::ArrayVec;
@@ -15,7 +15,7 @@ pub(crate) struct Table {
 
 impl Table {
     pub(crate) fn new() -> Table
-        ensures { rows_in result ≡ [] }
+        ensures { table_rows result ≡ [] }
     {
         Table {
             rows: ArrayVec::new(),
@@ -24,15 +24,15 @@ impl Table {
 
     // The rows, in the order in which they were entered.
     pub(crate) fn rows(&self) -> &[Row]
-        ensures { result.now ≡ rows_in self.now }
+        ensures { result.now ≡ table_rows self.now }
     {
         self.rows.as_slice()
     }
 
     // Puts the row of a key that was just made past the others.
     pub(crate) fn enter(&mut self, serial: u32, kind: KeyKind)
-        requires { length (rows_in self.old) < 32 }
-        ensures { rows_in self.new ≡ rows_in self.old ++ (live_row serial kind ∷ []) }
+        requires { length (table_rows self.old) < 32 }
+        ensures { table_rows self.new ≡ table_rows self.old ++ (live_row serial kind ∷ []) }
     {
         self.rows.push(Row {
             serial,
@@ -44,8 +44,8 @@ impl Table {
     // Marks the row of that serial, where there is one, and no other.
     #[tactic(auto, using(crate::proofs::TableLaws::strikes))]
     pub(crate) fn strike(&mut self, serial: u32)
-        ensures rows { rows_in self.new ≡ struck serial (rows_in self.old) }
-        ensures count { length (rows_in self.new) ≡ length (rows_in self.old) }
+        ensures rows { table_rows self.new ≡ rows_with_mark serial (table_rows self.old) }
+        ensures count { length (table_rows self.new) ≡ length (table_rows self.old) }
     {
         if let Some(place) = place_of(self.rows.as_slice(), serial) {
             mark_destroyed(&mut self.rows[place]);
@@ -55,7 +55,7 @@ impl Table {
 
 // Changes the one row that is lent. It is found by its place, since no proof knows what was written through `iter_mut().find(..)`.
 fn mark_destroyed(row: &mut Row)
-    ensures { row.new ≡ marked row.old }
+    ensures { row.new ≡ destroyed_row row.old }
 {
     row.mark = RowMark::Destroyed;
 }

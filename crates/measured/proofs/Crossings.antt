@@ -4,51 +4,51 @@ use Rattle.std.specs.Prelude.{nat_le}
 use Rattle.std.proofs.lemmas.Bool.{and_parts, leb-true}
 use Rattle.std.proofs.lemmas.Grind.{common_steps}
 use Rattle.std.proofs.lemmas.Slice.Eq.{bytes_eq-Decides}
-use Rattle.buffers.specs.Buffers.{length_answer, written}
-use Rattle.buffers.proofs.OverLaws.{take-over}
+use Rattle.buffers.specs.Buffers.{length_result, buffer_after}
+use Rattle.buffers.proofs.FrontLaws.{take-over}
 use Rattle.suite.specs.declared.types.Denial.TheVariants.{Unfit}
 use Rattle.suite.specs.declared.types.Role.TheVariants.{Sender}
 use Rattle.suite.specs.Numbers.{role_byte}
 use Rattle.suite.specs.declared.types.KeyKind.TheVariants.{LinkKey}
 use Rattle.suite.specs.Meanings.{Meaning, value_in}
-use Rattle.suite.specs.Calls.{sealed, opened}
-use Rattle.suite_of.specs.Kinds.{Functions, scheme_of}
-use Rattle.suite_of.specs.Payloads.{body_of, closed, read_of}
-use Rattle.suite_of.specs.PayloadLaws.{closed-length, body-length, reads_back}
-use Rattle.measured.specs.Returns.{gave, in_limits}
+use Rattle.suite.specs.Calls.{seal_result, open_result}
+use Rattle.suite_of.specs.Kinds.{KindFunctions, scheme_of}
+use Rattle.suite_of.specs.Payloads.{payload_body, with_field, payload_parts}
+use Rattle.suite_of.specs.PayloadProofs.{closed-length, body-length, reads_back}
+use Rattle.measured.specs.Returns.{is_given_back, is_in_limits}
 
-module _ (k : Functions) (long : (value body : List ℕ) → length (k.field_of value body) ≡ k.field_length) (short : k.field_length ≤ 16) where
+module _ (k : KindFunctions) (long : (value body : List ℕ) → length (k.field_of value body) ≡ k.field_length) (short : k.field_length ≤ 16) where
   payload : List ℕ → ℕ → List ℕ → List ℕ
-  payload value n plain = closed (k.field_of value) (body_of (k.stream_of value 1 n) 1 n plain)
+  payload value n plain = with_field (k.field_of value) (payload_body (k.stream_of value 1 n) 1 n plain)
 
   payload-length : (value plain : List ℕ) (n : ℕ) → length plain ≤ 200 → length (payload value n plain) ≤ 254
   unfolding payload
   payload-length value plain n h =
-      let body = body_of (k.stream_of value 1 n) 1 n plain in
+      let body = payload_body (k.stream_of value 1 n) 1 n plain in
       omega (arith, closed-length (k.field_of value) k.field_length body (long value body), body-length (k.stream_of value 1 n) 1 n plain)
 
-  payload-read : (value plain : List ℕ) (n : ℕ) → n ≤ 16777215 → read_of k.field_length (k.field_of value) (k.stream_of value) (payload value n plain) ≡ Some (1, n, plain)
+  payload-read : (value plain : List ℕ) (n : ℕ) → n ≤ 16777215 → payload_parts k.field_length (k.field_of value) (k.stream_of value) (payload value n plain) ≡ Some (1, n, plain)
   unfolding payload
   payload-read value plain n h = reads_back k.field_length (k.field_of value) (k.stream_of value) 1 n plain (long value _) refl h
 
-  sealed_is : (m : Meaning) (key n : ℕ) (plain value : List ℕ) → value_in m.live LinkKey key ≡ Some value → length plain ≤ 200 → n ≤ 16777215 → sealed (scheme_of k) m key 1 n plain 255 ≡ Ok (payload value n plain)
+  sealed_is : (m : Meaning) (key n : ℕ) (plain value : List ℕ) → value_in m.live LinkKey key ≡ Some value → length plain ≤ 200 → n ≤ 16777215 → seal_result (scheme_of k) m key 1 n plain 255 ≡ Ok (payload value n plain)
   unfolding payload
   sealed_is m key n plain value e h l = grind (arith, common_steps)
 
-  denied : (m : Meaning) (key n : ℕ) (plain : List ℕ) → in_limits plain n ≡ false → sealed (scheme_of k) m key 1 n plain 255 ≡ Err Unfit
+  denied : (m : Meaning) (key n : ℕ) (plain : List ℕ) → is_in_limits plain n ≡ false → seal_result (scheme_of k) m key 1 n plain 255 ≡ Err Unfit
   denied m key n plain h = grind (arith, common_steps)
 
-  opened_is : (m : Meaning) (key : ℕ) (value sent : List ℕ) → value_in m.live LinkKey key ≡ Some value → length sent ≤ 254 → opened (scheme_of k) m key sent 255 ≡ Ok (read_of k.field_length (k.field_of value) (k.stream_of value) sent)
+  opened_is : (m : Meaning) (key : ℕ) (value sent : List ℕ) → value_in m.live LinkKey key ≡ Some value → length sent ≤ 254 → open_result (scheme_of k) m key sent 255 ≡ Ok (payload_parts k.field_length (k.field_of value) (k.stream_of value) sent)
   opened_is m key value sent e h = grind (arith, common_steps)
 
-  gave_itself : (n : ℕ) (plain : List ℕ) → gave n plain (Ok (Some (1, n, plain))) ≡ true
+  gave_itself : (n : ℕ) (plain : List ℕ) → is_given_back n plain (Ok (Some (1, n, plain))) ≡ true
   gave_itself n plain = let e = (bytes_eq-Decides plain plain).1 refl in grind (arith, common_steps)
 
-  within : (m : Meaning) (key n : ℕ) (plain value : List ℕ) → value_in m.live LinkKey key ≡ Some value → length plain ≤ 200 → n ≤ 16777215 → gave n plain (opened (scheme_of k) m key (payload value n plain) 255) ≡ true
+  within : (m : Meaning) (key n : ℕ) (plain value : List ℕ) → value_in m.live LinkKey key ≡ Some value → length plain ≤ 200 → n ≤ 16777215 → is_given_back n plain (open_result (scheme_of k) m key (payload value n plain) 255) ≡ true
   within m key n plain value e h l = rw (opened_is m key value (payload value n plain) e (payload-length value plain n h), payload-read value plain n l) (gave_itself n plain)
 
-  module _ (m : Meaning) (key n size : ℕ) (plain buffer out : List ℕ) (answer : Ok size ≡ length_answer (sealed (scheme_of k) m key 1 n plain 255)) (writes : out ≡ written (sealed (scheme_of k) m key 1 n plain 255) buffer) where
-    of_value : (o : Option (List ℕ)) → value_in m.live LinkKey key ≡ o → is_some o ≡ true → length plain ≤ 200 → n ≤ 16777215 → gave n plain (opened (scheme_of k) m key (take size out) 255) ≡ true
+  module _ (m : Meaning) (key n size : ℕ) (plain buffer out : List ℕ) (answer : Ok size ≡ length_result (seal_result (scheme_of k) m key 1 n plain 255)) (writes : out ≡ buffer_after (seal_result (scheme_of k) m key 1 n plain 255) buffer) where
+    of_value : (o : Option (List ℕ)) → value_in m.live LinkKey key ≡ o → is_some o ≡ true → length plain ≤ 200 → n ≤ 16777215 → is_given_back n plain (open_result (scheme_of k) m key (take size out) 255) ≡ true
     of_value None e live h l = cc
     of_value (Some value) e live h l =
         let s = sealed_is m key n plain value e h l in
@@ -57,17 +57,17 @@ module _ (k : Functions) (long : (value body : List ℕ) → length (k.field_of 
         let size_is : size ≡ length (payload value n plain) = cc in
         rw (w, take-over (payload value n plain) buffer size size_is) (within m key n plain value e h l)
 
-    of_limits : (b : Bool) → in_limits plain n ≡ b → is_some (value_in m.live LinkKey key) ≡ true → gave n plain (opened (scheme_of k) m key (take size out) 255) ≡ b
+    of_limits : (b : Bool) → is_in_limits plain n ≡ b → is_some (value_in m.live LinkKey key) ≡ true → is_given_back n plain (open_result (scheme_of k) m key (take size out) 255) ≡ b
     of_limits false e live = let a = rw (denied m key n plain e) at answer in cc
     of_limits true e live =
         let parts = and_parts (nat_le (length plain) 200) (nat_le n 16777215) e in
         of_value _ refl live (leb-true (length plain) 200 parts.0) (leb-true n 16777215 parts.1)
 
   pub returns_itself : (m : Meaning) (key role n size : ℕ) (plain buffer out : List ℕ) → is_some (value_in m.live LinkKey key) ≡ true → role ≡ role_byte Sender
-      → Ok size ≡ length_answer (sealed (scheme_of k) m key role n plain 255)
-      → out ≡ written (sealed (scheme_of k) m key role n plain 255) buffer
-      → gave n plain (opened (scheme_of k) m key (take size out) 255) ≡ in_limits plain n
+      → Ok size ≡ length_result (seal_result (scheme_of k) m key role n plain 255)
+      → out ≡ buffer_after (seal_result (scheme_of k) m key role n plain 255) buffer
+      → is_given_back n plain (open_result (scheme_of k) m key (take size out) 255) ≡ is_in_limits plain n
   returns_itself m key role n size plain buffer out live is answer writes =
-      let a = subst (λ r. Ok size ≡ length_answer (sealed (scheme_of k) m key r n plain 255)) is answer in
-      let w = subst (λ r. out ≡ written (sealed (scheme_of k) m key r n plain 255) buffer) is writes in
+      let a = subst (λ r. Ok size ≡ length_result (seal_result (scheme_of k) m key r n plain 255)) is answer in
+      let w = subst (λ r. out ≡ buffer_after (seal_result (scheme_of k) m key r n plain 255) buffer) is writes in
       of_limits m key n size plain buffer out a w _ refl live

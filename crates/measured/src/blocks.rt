@@ -1,5 +1,5 @@
 ghost use Rattle.std.specs.Prelude.{◌≡◌};
-ghost use Rattle.measured.specs.Repeats.{are_blocks, can_tag, encrypted, tagged};
+ghost use Rattle.measured.specs.Repeats.{are_blocks, can_tag, encrypted_block, tagged_text};
 
 use aes128::Aes128;
 
@@ -7,7 +7,7 @@ use aes128::Aes128;
 #[unsafe(no_mangle)]
 pub extern "C" fn measured_encrypt(key: &[u8], block: &mut [u8], times: u32) -> bool
     ensures answer { result ≡ are_blocks key.now block.old }
-    ensures block { block.new ≡ encrypted key.now times block.old }
+    ensures block { block.new ≡ encrypted_block key.now times block.old }
 {
     let Some(key) = key.as_array() else {
         return false;
@@ -29,7 +29,7 @@ pub extern "C" fn measured_encrypt(key: &[u8], block: &mut [u8], times: u32) -> 
 #[unsafe(no_mangle)]
 pub extern "C" fn measured_tag(key: &[u8], text: &mut [u8], times: u32) -> bool
     ensures answer { result ≡ can_tag key.now text.old }
-    ensures text { text.new ≡ tagged key.now times text.old }
+    ensures text { text.new ≡ tagged_text key.now times text.old }
 {
     let Some(key) = key.as_array() else {
         return false;

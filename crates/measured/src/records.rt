@@ -1,10 +1,10 @@
 ghost use Rattle.std.specs.Prelude.{◌≡◌, ◌≤◌, true, is_some, Ok};
 ghost use Rattle.keyed_suite.specs.Keyed.{keyed_functions};
-ghost use Rattle.measured.specs.Returns.{gave, in_limits, returned, returned_under, unused};
-ghost use Rattle.suite.specs.Calls.{opened};
+ghost use Rattle.measured.specs.Returns.{is_given_back, is_in_limits, return_count, return_count_under, unused_meaning};
+ghost use Rattle.suite.specs.Calls.{open_result};
 ghost use Rattle.suite.specs.Meanings.{value_in};
 ghost use Rattle.suite.specs.declared.types.KeyKind.TheVariants.{LinkKey};
-ghost use Rattle.suite_of.specs.Kept.{meaning_of};
+ghost use Rattle.suite_of.specs.KindMeanings.{meaning_of};
 ghost use Rattle.suite_of.specs.Kinds.{scheme_of};
 
 use keyed_suite::KeyedSuite;
@@ -12,7 +12,7 @@ use suite::{Denial, Role, Suite};
 
 // A link key from a secret that two fixed seeds agree on.
 fn link(suite: &mut KeyedSuite) -> Result<u32, Denial>
-    requires { meaning_of suite.old ≡ unused (meaning_of suite.old).root }
+    requires { meaning_of suite.old ≡ unused_meaning (meaning_of suite.old).root }
     ensures serial { result ≡ Ok 2 }
     ensures live { is_some (value_in (meaning_of suite.new).live LinkKey 2) ≡ true }
 {
@@ -22,7 +22,7 @@ fn link(suite: &mut KeyedSuite) -> Result<u32, Denial>
 
 // Whether a payload opens as the Sender's record of that number and those data.
 fn opens(suite: &KeyedSuite, link: u32, payload: &[u8], number: u32, plain: &[u8]) -> bool
-    ensures { result ≡ gave number plain.now (opened (scheme_of keyed_functions) (meaning_of suite.now) link payload.now 255) }
+    ensures { result ≡ is_given_back number plain.now (open_result (scheme_of keyed_functions) (meaning_of suite.now) link payload.now 255) }
 {
     let mut back = [0; 255];
     match suite.open(link, payload, &mut back) {
@@ -36,7 +36,7 @@ fn opens(suite: &KeyedSuite, link: u32, payload: &[u8], number: u32, plain: &[u8
 // Whether a record that the Sender seals opens as itself.
 fn crosses(suite: &KeyedSuite, link: u32, number: u32, plain: &[u8]) -> bool
     requires { is_some (value_in (meaning_of suite.now).live LinkKey link) ≡ true }
-    ensures { result ≡ in_limits plain.now number }
+    ensures { result ≡ is_in_limits plain.now number }
 {
     let mut payload = [0; 255];
     match suite.seal(link, Role::Sender.byte(), number, plain, &mut payload) {
@@ -47,7 +47,7 @@ fn crosses(suite: &KeyedSuite, link: u32, number: u32, plain: &[u8]) -> bool
 
 fn crossings(suite: &KeyedSuite, link: u32, plain: &[u8], times: u32) -> u32
     requires { is_some (value_in (meaning_of suite.now).live LinkKey link) ≡ true }
-    ensures { result ≡ returned plain.now times }
+    ensures { result ≡ return_count plain.now times }
 {
     let mut crossed = 0;
     for before in 0..times {
@@ -62,7 +62,7 @@ fn crossings(suite: &KeyedSuite, link: u32, plain: &[u8], times: u32) -> u32
 // root that has not sixteen bytes.
 #[unsafe(no_mangle)]
 pub extern "C" fn measured_records(root: &[u8], plain: &[u8], times: u32) -> u32
-    ensures { result ≡ returned_under root.now plain.now times }
+    ensures { result ≡ return_count_under root.now plain.now times }
 {
     let Some(root) = root.as_array() else {
         return 0;

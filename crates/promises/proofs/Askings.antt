@@ -9,51 +9,51 @@ use Rattle.suite.specs.declared.types.Denial.{Denial}
 use Rattle.suite.specs.declared.types.Denial.TheVariants.{BadOffer, Spent}
 use Rattle.suite.specs.Numbers.{role_byte}
 use Rattle.suite.specs.Meanings.{Meaning, keyring_of, value_in, is_live}
-use Rattle.suite.specs.Schemes.{Scheme, Lawful}
-use Rattle.suite.specs.Calls.{spent, adding, offered, agreed, destroy_answer}
+use Rattle.suite.specs.Schemes.{Scheme, IsLawful}
+use Rattle.suite.specs.Calls.{is_spent, with_key, offer_result, agree_result, destroy_result}
 use Rattle.suite.proofs.CallLaws.{offered_is, agreed_is, derived_is, checked_is, revealed_is, sealed_is, opened_is}
 use Rattle.protocol.specs.declared.states.State.{State}
 use Rattle.protocol.specs.declared.states.State.TheVariants.{Idle, Select, EstablishedSender, EstablishedRecipient, ConfirmedSse, ConfirmedSch}
 use Rattle.protocol.specs.Numbers.{state_mark}
 use Rattle.protocol.specs.Models.{Model, has_secret, has_link, without_key}
-use Rattle.promises.specs.Promises.{WellAsked, ServesAsSecret, ServesAsLink, AsksWell}
+use Rattle.promises.specs.Promises.{IsWellAsked, ServesAsSecret, ServesAsLink, AsksWell}
 use Rattle.promises.proofs.Cases.{both, clash}
 use Rattle.promises.proofs.Forms.{Base, One, Two, none_live, one_live, two_live, secret_key, link_key, none_formed, one_formed, two_formed, secret_there, link_there}
-use Rattle.promises.proofs.Sounds.{unlinked, in_link, SecretOnly, Sound, at_idle, at_select, at_secret, at_sch}
+use Rattle.promises.proofs.EntityForms.{unlinked, in_link, SecretOnly, HasForm, at_idle, at_select, at_secret, at_sch}
 
 -- Answers that are no such denial.
 
-answered : {A : Type 0} (x : A) → WellAsked (Ok x)
+answered : {A : Type 0} (x : A) → IsWellAsked (Ok x)
 answered x = record { fit = λ e. (cc); known = λ e. (cc) }
 
-bad_offer : {A : Type 0} → WellAsked {A = A} (Err BadOffer)
+bad_offer : {A : Type 0} → IsWellAsked {A = A} (Err BadOffer)
 bad_offer = record { fit = λ e. (cc); known = λ e. (cc) }
 
-is_spent : {A : Type 0} → WellAsked {A = A} (Err Spent)
+is_spent : {A : Type 0} → IsWellAsked {A = A} (Err Spent)
 is_spent = record { fit = λ e. (cc); known = λ e. (cc) }
 
 -- an answer that equals one which is no such denial
-same_as : {A : Type 0} {a b : Result A Denial} → a ≡ b → WellAsked b → WellAsked a
-same_as e g = subst WellAsked (sym e) g
+same_as : {A : Type 0} {a b : Result A Denial} → a ≡ b → IsWellAsked b → IsWellAsked a
+same_as e g = subst IsWellAsked (sym e) g
 
 -- The suite's calls.
 
-offer_asked : (s : Scheme) (m : Meaning) (seed : List ℕ) (room : ℕ) → length seed ≡ 16 → 255 ≤ room → WellAsked (offered s m seed room)
+offer_asked : (s : Scheme) (m : Meaning) (seed : List ℕ) (room : ℕ) → length seed ≡ 16 → 255 ≤ room → IsWellAsked (offer_result s m seed room)
 offer_asked s m seed room e h = same_as (offered_is s m seed room e h) (answered _)
 
-agreement_asked : (s : Scheme) (m : Meaning) (seed offer : List ℕ) (role : Role) → length seed ≡ 16 → WellAsked (agreed s m seed offer (role_byte role))
+agreement_asked : (s : Scheme) (m : Meaning) (seed offer : List ℕ) (role : Role) → length seed ≡ 16 → IsWellAsked (agree_result s m seed offer (role_byte role))
 agreement_asked s m seed offer role e =
     same_as (agreed_is s m seed offer role e)
-    (both (not (s.fit_of (keyring_of m) offer)) WellAsked (λ _. bad_offer) (λ _. both (spent m) WellAsked (λ _. is_spent) (λ _. answered _)))
+    (both (not (s.fit_of (keyring_of m) offer)) IsWellAsked (λ _. bad_offer) (λ _. both (is_spent m) IsWellAsked (λ _. is_spent) (λ _. answered _)))
 
 secret_serves : (s : Scheme) (m : Meaning) (key : ℕ) → is_some (value_in m.live SharedSecret key) ≡ true → ServesAsSecret s m key
 secret_serves s m key live = record {
   check = λ role room h. same_as (checked_is s m key role room h live) (answered _);
-  link = same_as (derived_is s m key live) (both (spent m) WellAsked (λ _. is_spent) (λ _. answered _));
+  link = same_as (derived_is s m key live) (both (is_spent m) IsWellAsked (λ _. is_spent) (λ _. answered _));
   value = λ room h. same_as (revealed_is m key room h live) (answered _);
 }
 
-link_serves : (s : Scheme) → Lawful s → (m : Meaning) (key : ℕ) → is_some (value_in m.live LinkKey key) ≡ true → ServesAsLink s m key
+link_serves : (s : Scheme) → IsLawful s → (m : Meaning) (key : ℕ) → is_some (value_in m.live LinkKey key) ≡ true → ServesAsLink s m key
 link_serves s law m key live = record {
   seal = λ role n plain room long top h.
       let final = law.final_bound in
@@ -61,8 +61,8 @@ link_serves s law m key live = record {
   unseal = λ payload room short h. same_as (opened_is s m key payload room short h live) (answered _);
 }
 
-destroy_asked : (m : Meaning) (key : ℕ) → is_live m.live key ≡ true → WellAsked (destroy_answer m key)
-destroy_asked m key e = both (is_live m.live key) WellAsked (λ _. answered _) (λ f. clash (is_live m.live key) f e)
+destroy_asked : (m : Meaning) (key : ℕ) → is_live m.live key ≡ true → IsWellAsked (destroy_result m key)
+destroy_asked m key e = both (is_live m.live key) IsWellAsked (λ _. answered _) (λ f. clash (is_live m.live key) f e)
 
 -- An entity over its suite.
 
@@ -105,7 +105,7 @@ secret_stays root last n v w =
     let self = eq-eqb n n refl in
     rw (above, apart, self)
 
-module _ (s : Scheme) (law : Lawful s) where
+module _ (s : Scheme) (law : IsLawful s) where
   -- with no key
   serves_none : (root : List ℕ) (last n : ℕ) {state : State} {service : Service} {role : Role} {seed : List ℕ} {number : ℕ} → Base root last n → state ≢ ConfirmedSch → has_secret state ≡ false → (state ≡ Select → length seed ≡ 16) → AsksWell s (unlinked (none_live root last n) state service role seed number 0)
   serves_none root last n b unlinked' none kept = record {
@@ -114,7 +114,7 @@ module _ (s : Scheme) (law : Lawful s) where
     offer = λ seed room e h. offer_asked s (none_live root last n) seed room e h;
     agreement = λ seed offer role e. agreement_asked s (none_live root last n) seed offer role e;
     kept_seed = kept;
-    new_secret = λ _ value. secret_serves s (adding (none_live root last n) SharedSecret value) (n + 1) (ap is_some (secret_there (n + 1) value []));
+    new_secret = λ _ value. secret_serves s (with_key (none_live root last n) SharedSecret value) (n + 1) (ap is_some (secret_there (n + 1) value []));
     secret = λ some. clash _ none some;
     link = λ e. absurd (unlinked' e);
     link_goes = no_key;
@@ -149,7 +149,7 @@ module _ (s : Scheme) (law : Lawful s) where
     secret_goes = λ ne. destroy_asked (without_key (two_live root last n v w) (n + 1)) n (secret_stays root last n v w);
   }
 
-  pub asks_well : {m : Model} → Sound s m → AsksWell s m
+  pub asks_well : {m : Model} → HasForm s m → AsksWell s m
   asks_well (at_idle {root} {last} {newest} b) = serves_none root last newest b (λ e. (cc)) refl (λ e. absurd (cc))
   asks_well (at_select {root} {last} {newest} b h) = serves_none root last newest b (λ e. (cc)) refl (λ e. h.long)
   asks_well (at_secret {root} {last} {n} {v} state k one) = serves_secret root last n v k one

@@ -1,11 +1,11 @@
 -- What the calls of one link session sent, took in and handed out.
 use Rattle.std.proofs.Common.{◌≡◌, ℕ, ◌+◌, ◌<◌, ◌≤◌, true, false, cond, ◌||◌, eqb, ◌⊎◌, List, [], ◌∷◌, ◌++◌, Some, Option, sym, refl, ap, ◌∙◌, subst, inl, inr, append_assoc, append-nil, arith}
 use Rattle.std.proofs.lemmas.Bool.{cases_lt, eq-eqb, or_left, or_right}
-use Rattle.suite.specs.Meanings.{Keyring, Formed, Bytes16}
-use Rattle.suite.specs.Schemes.{Scheme, Lawful, Sealable, ok_role}
+use Rattle.suite.specs.Meanings.{Keyring, IsFormed, IsBytes16}
+use Rattle.suite.specs.Schemes.{Scheme, IsLawful, IsSealable, is_role}
 use Rattle.protocol.specs.Steps.{is_empty}
-use Rattle.histories.specs.Histories.{Entry, History, member, sent, sent_in, handed, handing}
-use Rattle.histories.specs.Sessions.{encs, enc_in, numbers, number_in, opens_to, In, CopyIn, OnlyCopies}
+use Rattle.histories.specs.Histories.{Entry, History, is_member, data_sent, data_sent_in, data_handed, is_retrieval}
+use Rattle.histories.specs.Sessions.{encs_sent, encs_sent_in, enc_numbers, enc_number, opened_number, IsMember, GetsCopy, GetsOnlyCopies}
 use Rattle.promises.proofs.Books.{member_append}
 use Rattle.promises.proofs.Orders.{Rec, to_data, Has, Desc, desc_more}
 
@@ -24,10 +24,10 @@ unseal s value z payload = s.open_of z.keyring z.serial value payload
 
 -- what one call in a session does: the number and the held data before and after
 pub data Act (s : Scheme) (value : List ℕ) (z : End) (e : Entry) : ℕ → List ℕ → ℕ → List ℕ → Type 0 where
-  sends : {n : ℕ} {held : List ℕ} (plain : List ℕ) → sent_in e ≡ plain ∷ [] → enc_in e ≡ (0x14 ∷ seal s value z (n + 1) plain) ∷ [] → handing e ≡ false → Sealable s (n + 1) plain → Act s value z e n held (n + 1) held
-  takes : {n : ℕ} (who : ℕ) (payload plain : List ℕ) → sent_in e ≡ [] → enc_in e ≡ [] → handing e ≡ false → ((copies : List (List ℕ)) → CopyIn copies e.call → In (0x14 ∷ payload) copies) → unseal s value z payload ≡ Some (who, n + 1, plain) → eqb who z.role ≡ false → is_empty plain ≡ false → Act s value z e n [] (n + 1) plain
-  gives : {n : ℕ} {held : List ℕ} → sent_in e ≡ [] → enc_in e ≡ [] → handing e ≡ true → e.written ≡ held → is_empty held ≡ false → Act s value z e n held n []
-  other : {n : ℕ} {held : List ℕ} → sent_in e ≡ [] → enc_in e ≡ [] → handing e ≡ false → Act s value z e n held n held
+  sends : {n : ℕ} {held : List ℕ} (plain : List ℕ) → data_sent_in e ≡ plain ∷ [] → encs_sent_in e ≡ (0x14 ∷ seal s value z (n + 1) plain) ∷ [] → is_retrieval e ≡ false → IsSealable s (n + 1) plain → Act s value z e n held (n + 1) held
+  takes : {n : ℕ} (who : ℕ) (payload plain : List ℕ) → data_sent_in e ≡ [] → encs_sent_in e ≡ [] → is_retrieval e ≡ false → ((copies : List (List ℕ)) → GetsCopy copies e.call → IsMember (0x14 ∷ payload) copies) → unseal s value z payload ≡ Some (who, n + 1, plain) → eqb who z.role ≡ false → is_empty plain ≡ false → Act s value z e n [] (n + 1) plain
+  gives : {n : ℕ} {held : List ℕ} → data_sent_in e ≡ [] → encs_sent_in e ≡ [] → is_retrieval e ≡ true → e.written ≡ held → is_empty held ≡ false → Act s value z e n held n []
+  other : {n : ℕ} {held : List ℕ} → data_sent_in e ≡ [] → encs_sent_in e ≡ [] → is_retrieval e ≡ false → Act s value z e n held n held
 
 -- the acts of a session from its start
 pub data Ledger (s : Scheme) (value : List ℕ) (z : End) : History → ℕ → List ℕ → Type 0 where
@@ -43,13 +43,13 @@ one_waiting : (plain : List ℕ) → is_empty plain ≡ false → waiting plain 
 one_waiting [] e = absurd (cc)
 one_waiting (x ∷ xs) e = refl
 
-none_handed : (e : Entry) (since : History) → handing e ≡ false → handed (e ∷ since) ≡ handed since
-none_handed e since h = ap (λ b. handed since ++ cond b (e.written ∷ []) []) h ∙ append-nil (handed since)
+none_handed : (e : Entry) (since : History) → is_retrieval e ≡ false → data_handed (e ∷ since) ≡ data_handed since
+none_handed e since h = ap (λ b. data_handed since ++ cond b (e.written ∷ []) []) h ∙ append-nil (data_handed since)
 
-unsent : (e : Entry) (since : History) → enc_in e ≡ [] → encs (e ∷ since) ≡ encs since
-unsent e since h = ap (λ z. encs since ++ z) h ∙ append-nil (encs since)
+unsent : (e : Entry) (since : History) → encs_sent_in e ≡ [] → encs_sent (e ∷ since) ≡ encs_sent since
+unsent e since h = ap (λ z. encs_sent since ++ z) h ∙ append-nil (encs_sent since)
 
-pub in_append : (x : List ℕ) (xs ys : List (List ℕ)) → In x (xs ++ ys) → In x xs ⊎ In x ys
+pub in_append : (x : List ℕ) (xs ys : List (List ℕ)) → IsMember x (xs ++ ys) → IsMember x xs ⊎ IsMember x ys
 in_append x [] ys h = inr h
 in_append x (y ∷ xs) ys h = elim h [ inl e ↦ inl (inl e) | inr k ↦ elim (in_append x xs ys k) [ inl a ↦ inl (inr a) | inr b ↦ inr b ] ]
 
@@ -76,22 +76,22 @@ module _ (s : Scheme) (value : List ℕ) (z : End) where
   taken_of start = []
   taken_of (more L a) = add_taken (taken_of L) a
 
-  pub sent_is : {since : History} {n : ℕ} {held : List ℕ} (L : Ledger s value z since n held) → sent since ≡ to_data (sent_of L)
+  pub sent_is : {since : History} {n : ℕ} {held : List ℕ} (L : Ledger s value z since n held) → data_sent since ≡ to_data (sent_of L)
   sent_is start = refl
-  sent_is (more {since} L (sends plain a b c d)) = ap (λ y. sent since ++ y) a ∙ ap (λ y. y ++ (plain ∷ [])) (sent_is L)
-  sent_is (more {since} L (takes who payload plain a b c d f g h)) = ap (λ y. sent since ++ y) a ∙ append-nil (sent since) ∙ sent_is L
-  sent_is (more {since} L (gives a b c d f)) = ap (λ y. sent since ++ y) a ∙ append-nil (sent since) ∙ sent_is L
-  sent_is (more {since} L (other a b c)) = ap (λ y. sent since ++ y) a ∙ append-nil (sent since) ∙ sent_is L
+  sent_is (more {since} L (sends plain a b c d)) = ap (λ y. data_sent since ++ y) a ∙ ap (λ y. y ++ (plain ∷ [])) (sent_is L)
+  sent_is (more {since} L (takes who payload plain a b c d f g h)) = ap (λ y. data_sent since ++ y) a ∙ append-nil (data_sent since) ∙ sent_is L
+  sent_is (more {since} L (gives a b c d f)) = ap (λ y. data_sent since ++ y) a ∙ append-nil (data_sent since) ∙ sent_is L
+  sent_is (more {since} L (other a b c)) = ap (λ y. data_sent since ++ y) a ∙ append-nil (data_sent since) ∙ sent_is L
 
-  pub taken_is : {since : History} {n : ℕ} {held : List ℕ} (L : Ledger s value z since n held) → to_data (taken_of L) ≡ handed since ++ waiting held
+  pub taken_is : {since : History} {n : ℕ} {held : List ℕ} (L : Ledger s value z since n held) → to_data (taken_of L) ≡ data_handed since ++ waiting held
   taken_is start = refl
   taken_is (more {since} {e} {held} L (sends plain a b c d)) = taken_is L ∙ ap (λ y. y ++ waiting held) (sym (none_handed e since c))
   taken_is (more {since} {e} L (takes who payload plain a b c d f g h)) =
-      let was : to_data (taken_of L) ≡ handed since = taken_is L ∙ append-nil (handed since) in
-      ap (λ y. y ++ (plain ∷ [])) (was ∙ sym (none_handed e since c)) ∙ ap (λ y. handed (e ∷ since) ++ y) (sym (one_waiting plain h))
+      let was : to_data (taken_of L) ≡ data_handed since = taken_is L ∙ append-nil (data_handed since) in
+      ap (λ y. y ++ (plain ∷ [])) (was ∙ sym (none_handed e since c)) ∙ ap (λ y. data_handed (e ∷ since) ++ y) (sym (one_waiting plain h))
   taken_is (more {since} {e} {held} L (gives a b c d f)) =
-      let out : handed (e ∷ since) ≡ handed since ++ (held ∷ []) = ap (λ t. handed since ++ cond t (e.written ∷ []) []) c ∙ ap (λ y. handed since ++ (y ∷ [])) d in
-      taken_is L ∙ ap (λ y. handed since ++ y) (one_waiting held f) ∙ sym out ∙ sym (append-nil (handed (e ∷ since)))
+      let out : data_handed (e ∷ since) ≡ data_handed since ++ (held ∷ []) = ap (λ t. data_handed since ++ cond t (e.written ∷ []) []) c ∙ ap (λ y. data_handed since ++ (y ∷ [])) d in
+      taken_is L ∙ ap (λ y. data_handed since ++ y) (one_waiting held f) ∙ sym out ∙ sym (append-nil (data_handed (e ∷ since)))
   taken_is (more {since} {e} {held} L (other a b c)) = taken_is L ∙ ap (λ y. y ++ waiting held) (sym (none_handed e since c))
 
   -- their numbers fall from the newest
@@ -120,7 +120,7 @@ module _ (s : Scheme) (value : List ℕ) (z : End) where
   -- a record sent: its number lies above the first, and it can be sealed
   pub record Good (k : ℕ) (x : List ℕ) : Type 0 where
     pub above : s.first < k
-    pub fit : Sealable s k x
+    pub fit : IsSealable s k x
 
   pub sent_good : {since : History} {n : ℕ} {held : List ℕ} (L : Ledger s value z since n held) (k : ℕ) (x : List ℕ) → Has k x (sent_of L) → Good k x
   sent_good start k x h = absurd h
@@ -159,11 +159,11 @@ module _ (s : Scheme) (value : List ℕ) (z : End) where
   pub record Copied (copies : List (List ℕ)) (k : ℕ) (x : List ℕ) : Type 0 where
     pub who : ℕ
     pub payload : List ℕ
-    pub copy : In (0x14 ∷ payload) copies
+    pub copy : IsMember (0x14 ∷ payload) copies
     pub opens : unseal s value z payload ≡ Some (who, k, x)
     pub theirs : eqb who z.role ≡ false
 
-  pub taken_copied : {since : History} {n : ℕ} {held : List ℕ} (L : Ledger s value z since n held) (copies : List (List ℕ)) → OnlyCopies copies since → (k : ℕ) (x : List ℕ) → Has k x (taken_of L) → Copied copies k x
+  pub taken_copied : {since : History} {n : ℕ} {held : List ℕ} (L : Ledger s value z since n held) (copies : List (List ℕ)) → GetsOnlyCopies copies since → (k : ℕ) (x : List ℕ) → Has k x (taken_of L) → Copied copies k x
   taken_copied start copies o k x h = absurd h
   taken_copied (more L (sends plain a b c d)) copies o k x h = taken_copied L copies o.1 k x h
   taken_copied (more {n} L (takes who payload plain a b c d f g h)) copies o k x i =
@@ -181,38 +181,38 @@ module _ (s : Scheme) (value : List ℕ) (z : End) where
     pub has : Has num plain X
     pub is : enc ≡ 0x14 ∷ seal s value z num plain
 
-  pub enc_sealed : {since : History} {n : ℕ} {held : List ℕ} (L : Ledger s value z since n held) (x : List ℕ) → In x (encs since) → Sealed (sent_of L) x
+  pub enc_sealed : {since : History} {n : ℕ} {held : List ℕ} (L : Ledger s value z since n held) (x : List ℕ) → IsMember x (encs_sent since) → Sealed (sent_of L) x
   enc_sealed start x h = absurd h
   enc_sealed (more {since} {e} {n} L (sends plain a b c d)) x h =
-      elim (in_append x (encs since) ((0x14 ∷ seal s value z (n + 1) plain) ∷ []) (subst (λ y. In x (encs since ++ y)) b h)) [
+      elim (in_append x (encs_sent since) ((0x14 ∷ seal s value z (n + 1) plain) ∷ []) (subst (λ y. IsMember x (encs_sent since ++ y)) b h)) [
         | inl i ↦ (let r = enc_sealed L x i in record { num = r.num; plain = r.plain; has = inr r.has; is = r.is })
         | inr i ↦ elim i [ inl q ↦ record { num = n + 1; plain = plain; has = inl (refl, refl); is = q } | inr y ↦ absurd y ]
       ]
-  enc_sealed (more {since} {e} L (takes who payload plain a b c d f g h)) x i = enc_sealed L x (subst (λ y. In x y) (unsent e since b) i)
-  enc_sealed (more {since} {e} L (gives a b c d f)) x h = enc_sealed L x (subst (λ y. In x y) (unsent e since b) h)
-  enc_sealed (more {since} {e} L (other a b c)) x h = enc_sealed L x (subst (λ y. In x y) (unsent e since b) h)
+  enc_sealed (more {since} {e} L (takes who payload plain a b c d f g h)) x i = enc_sealed L x (subst (λ y. IsMember x y) (unsent e since b) i)
+  enc_sealed (more {since} {e} L (gives a b c d f)) x h = enc_sealed L x (subst (λ y. IsMember x y) (unsent e since b) h)
+  enc_sealed (more {since} {e} L (other a b c)) x h = enc_sealed L x (subst (λ y. IsMember x y) (unsent e since b) h)
 
   -- the numbers that ENCs open to
   abbrev pub told : List (List ℕ) → List ℕ
-  told xs = numbers s z.keyring z.serial value xs
+  told xs = enc_numbers s z.keyring z.serial value xs
 
   told_append : (xs ys : List (List ℕ)) → told (xs ++ ys) ≡ told xs ++ told ys
   told_append [] ys = refl
-  told_append (x ∷ xs) ys = ap (λ y. number_in s z.keyring z.serial value x ++ y) (told_append xs ys) ∙ sym (append_assoc (number_in s z.keyring z.serial value x) (told xs) (told ys))
+  told_append (x ∷ xs) ys = ap (λ y. enc_number s z.keyring z.serial value x ++ y) (told_append xs ys) ∙ sym (append_assoc (enc_number s z.keyring z.serial value x) (told xs) (told ys))
 
   -- the number of each record sent is among those that the session's ENCs open to
-  module _ (law : Lawful s) (ok : ok_role z.role ≡ true) (f : Formed z.keyring) (v16 : Bytes16 value) where
-    pub number_told : {since : History} {n : ℕ} {held : List ℕ} (L : Ledger s value z since n held) (k : ℕ) (x : List ℕ) → Has k x (sent_of L) → member k (told (encs since)) ≡ true
+  module _ (law : IsLawful s) (ok : is_role z.role ≡ true) (f : IsFormed z.keyring) (v16 : IsBytes16 value) where
+    pub number_told : {since : History} {n : ℕ} {held : List ℕ} (L : Ledger s value z since n held) (k : ℕ) (x : List ℕ) → Has k x (sent_of L) → is_member k (told (encs_sent since)) ≡ true
     number_told start k x h = absurd h
     number_told (more {since} {e} {n} L (sends plain a b c d)) k x h =
         let opens : unseal s value z (seal s value z (n + 1) plain) ≡ Some (z.role, n + 1, plain) = law.opens z.keyring z.keyring value plain z.serial z.serial z.role (n + 1) f f v16 ok d in
-        let new : told (enc_in e) ≡ (n + 1) ∷ [] = ap told b ∙ ap (λ y. opens_to y ++ []) opens in
-        let all : told (encs (e ∷ since)) ≡ told (encs since) ++ ((n + 1) ∷ []) = told_append (encs since) (enc_in e) ∙ ap (λ y. told (encs since) ++ y) new in
-        ap (member k) all ∙ member_append k (told (encs since)) ((n + 1) ∷ []) ∙
+        let new : told (encs_sent_in e) ≡ (n + 1) ∷ [] = ap told b ∙ ap (λ y. opened_number y ++ []) opens in
+        let all : told (encs_sent (e ∷ since)) ≡ told (encs_sent since) ++ ((n + 1) ∷ []) = told_append (encs_sent since) (encs_sent_in e) ∙ ap (λ y. told (encs_sent since) ++ y) new in
+        ap (is_member k) all ∙ member_append k (told (encs_sent since)) ((n + 1) ∷ []) ∙
         elim h [
-          | inl q ↦ or_right (member k (told (encs since))) (eqb k (n + 1) || false) (or_left (eqb k (n + 1)) false (eq-eqb k (n + 1) q.0))
-          | inr r ↦ or_left (member k (told (encs since))) (eqb k (n + 1) || false) (number_told L k x r)
+          | inl q ↦ or_right (is_member k (told (encs_sent since))) (eqb k (n + 1) || false) (or_left (eqb k (n + 1)) false (eq-eqb k (n + 1) q.0))
+          | inr r ↦ or_left (is_member k (told (encs_sent since))) (eqb k (n + 1) || false) (number_told L k x r)
         ]
-    number_told (more {since} {e} L (takes who payload plain a b c d f g h)) k x i = ap (λ y. member k (told y)) (unsent e since b) ∙ number_told L k x i
-    number_told (more {since} {e} L (gives a b c d f)) k x h = ap (λ y. member k (told y)) (unsent e since b) ∙ number_told L k x h
-    number_told (more {since} {e} L (other a b c)) k x h = ap (λ y. member k (told y)) (unsent e since b) ∙ number_told L k x h
+    number_told (more {since} {e} L (takes who payload plain a b c d f g h)) k x i = ap (λ y. is_member k (told y)) (unsent e since b) ∙ number_told L k x i
+    number_told (more {since} {e} L (gives a b c d f)) k x h = ap (λ y. is_member k (told y)) (unsent e since b) ∙ number_told L k x h
+    number_told (more {since} {e} L (other a b c)) k x h = ap (λ y. is_member k (told y)) (unsent e since b) ∙ number_told L k x h

@@ -3,9 +3,9 @@ pub mod Books
 pub mod Forms
 pub mod Orders
 pub mod Ledgers
-pub mod Duos
+pub mod TwoSessions
 pub mod Payloads
-pub mod Sounds
+pub mod EntityForms
 pub mod Turns
 pub mod Messages
 pub mod Requests

@@ -4,17 +4,17 @@ use Rattle.std.proofs.lemmas.Bool.{ne_eqb, ltb-false, eqb-true, or_parts, and_pa
 use Rattle.frame.specs.declared.types.Service.{Service}
 use Rattle.frame.specs.declared.types.Service.TheVariants.{Sse, Sch}
 use Rattle.frame.specs.Numbers.{service_code}
-use Rattle.frame.specs.Frames.{Said, act_req, act_res, vfy_req, vfy_res, enc, tmn, error}
+use Rattle.frame.specs.Frames.{Contents, act_req, act_res, vfy_req, vfy_res, enc, tmn, error}
 use Rattle.frame.specs.Reading.{Reading, message, refused as unread, fault, reading}
 use Rattle.suite.specs.declared.types.Role.{Role}
 use Rattle.suite.specs.declared.types.Role.TheVariants.{Sender, Recipient}
 use Rattle.suite.specs.declared.types.KeyKind.TheVariants.{SharedSecret, LinkKey}
 use Rattle.suite.specs.Numbers.{role_byte}
-use Rattle.suite.specs.Meanings.{Bytes, Bytes16, keyring_of, value_in, value_of}
+use Rattle.suite.specs.Meanings.{IsBytes, IsBytes16, keyring_of, value_in, value_of}
 use Rattle.suite.proofs.CallLaws.{role_ok}
 use Rattle.suite.proofs.KeyLaws.{value_is}
-use Rattle.suite.specs.Schemes.{Scheme, Lawful}
-use Rattle.suite.specs.Calls.{spent}
+use Rattle.suite.specs.Schemes.{Scheme, IsLawful}
+use Rattle.suite.specs.Calls.{is_spent}
 use Rattle.protocol.specs.declared.states.State.{State}
 use Rattle.protocol.specs.declared.states.State.TheVariants as st
 use Rattle.protocol.specs.declared.outcomes.Confirmation.TheVariants as conf
@@ -24,40 +24,40 @@ use Rattle.protocol.specs.declared.faults.SuiteFault.TheVariants.{BadOffer, NoKe
 use Rattle.protocol.specs.declared.faults.Cause.{Cause}
 use Rattle.protocol.specs.declared.faults.Cause.TheVariants.{Suite}
 use Rattle.protocol.specs.Models.{Model, Ancillary, link_value}
-use Rattle.protocol.specs.Steps.{Step, fails, unless, moved, agreement, derivation, verified, good, opened_record, is_empty, record_length, sequenced, same_service, in_session, on_act_req, on_act_res, on_vfy_req, on_vfy_res, on_enc, entered, linked, confirmed, check_value, by_state, said_by}
-use Rattle.protocol.specs.Calls.{Call, frame, settle, blocked, admitted, taken}
-use Rattle.histories.specs.Histories.{listed}
-use Rattle.histories.specs.Sessions.{In, CopyIn, CopyOf}
+use Rattle.protocol.specs.Steps.{Step, fault_effect, effect_or_fault, ongoing_effect, agreement, derivation, verification, good_record, opened_record, is_empty, is_record_length, sequence_check, is_same_service, session_effect, on_act_req, on_act_res, on_vfy_req, on_vfy_res, on_enc, record_effect, link_start, service_start, check_value, message_effect, frame_bytes}
+use Rattle.protocol.specs.Calls.{Call, frame, effect_of_step, is_blocked, admission, admitted_effect}
+use Rattle.histories.specs.Histories.{serial_list}
+use Rattle.histories.specs.Sessions.{IsMember, GetsCopy, IsCopyIfEnc}
 use Rattle.promises.proofs.Cases.{both, clash}
 use Rattle.promises.proofs.Forms.{Base, One, Two, none_live, one_live, two_live, passes, made_one, secret_there, made_two}
 use Rattle.promises.proofs.Ledgers.{takes, other}
 use Rattle.promises.proofs.Payloads.{read_is, fields_bytes}
-use Rattle.promises.proofs.Sounds.{unlinked, in_link, SecretOnly, Sound, at_idle, at_select, at_secret, at_sch, Did, outside, inside, agrees, links}
+use Rattle.promises.proofs.EntityForms.{unlinked, in_link, SecretOnly, HasForm, at_idle, at_select, at_secret, at_sch, Did, outside, inside, agrees, links}
 use Rattle.promises.proofs.Turns.{silent, unmoved, not_linked, did_refused, did_ended}
 
 -- what follows where the suite finds no fault, by cases
-each : {A : Type 0} (P : Step → Type 0) (m : Model) (r : Result A SuiteFault) (f : A → Step) → ((e : SuiteFault) → P (fails m (Suite e))) → ((x : A) → r ≡ Ok x → P (f x)) → P (unless m r f)
+each : {A : Type 0} (P : Step → Type 0) (m : Model) (r : Result A SuiteFault) (f : A → Step) → ((e : SuiteFault) → P (fault_effect m (Suite e))) → ((x : A) → r ≡ Ok x → P (f x)) → P (effect_or_fault m r f)
 each P m (Ok x) f g h = h x refl
 each P m (Err e) f g h = g e
 
-good_is : (o : Option (ℕ × ℕ × List ℕ)) (t : ℕ × ℕ × List ℕ) → good o ≡ Ok t → o ≡ Some t
+good_is : (o : Option (ℕ × ℕ × List ℕ)) (t : ℕ × ℕ × List ℕ) → good_record o ≡ Ok t → o ≡ Some t
 good_is (Some u) t e = let same : u ≡ t = cc in ap Some same
 good_is None t e = absurd (cc)
 
 -- the next serial is told
-next_listed : (n : ℕ) → listed (n + 1) ≡ (n + 1) ∷ []
+next_listed : (n : ℕ) → serial_list (n + 1) ≡ (n + 1) ∷ []
 next_listed n = let e : eqb (n + 1) 0 ≡ false = ne_eqb (n + 1) 0 (λ x. omega arith) in rw e
 
-module _ (s : Scheme) (law : Lawful s) {root : List ℕ} {last : ℕ} where
+module _ (s : Scheme) (law : IsLawful s) {root : List ℕ} {last : ℕ} where
   -- where the suite agrees it has a shared secret
-  agreed_one : {newest : ℕ} (offer seed : List ℕ) (role : Role) (value : List ℕ) → Base root last newest → Bytes16 seed → Bytes offer
+  agreed_one : {newest : ℕ} (offer seed : List ℕ) (role : Role) (value : List ℕ) → Base root last newest → IsBytes16 seed → IsBytes offer
       → agreement s (none_live root last newest) seed offer role ≡ Ok value → One root last (newest + 1) value
   agreed_one {newest} offer seed role value base sb ob q =
       let means = none_live root last newest in
       let k = keyring_of means in
       let made : Result (List ℕ) SuiteFault = Ok (s.secret_of k (role_byte role) seed offer) in
-      let first = passes (not (s.fit_of k offer)) BadOffer (cond (spent means) (Err NoKey) made) value q in
-      let second = passes (spent means) NoKey made value first.1 in
+      let first = passes (not (s.fit_of k offer)) BadOffer (cond (is_spent means) (Err NoKey) made) value q in
+      let second = passes (is_spent means) NoKey made value first.1 in
       let same : s.secret_of k (role_byte role) seed offer ≡ value = cc (second.1) in
       subst (One root last (newest + 1)) same (made_one s law root last newest seed offer (role_byte role) base sb ob (role_ok role) (not-false (s.fit_of k offer) first.0) second.0)
 
@@ -67,35 +67,35 @@ module _ (s : Scheme) (law : Lawful s) {root : List ℕ} {last : ℕ} where
   derived_two n v value one q =
       let means = one_live root last n v in
       let made : List ℕ → Result (List ℕ) SuiteFault = λ x. Ok (s.link_of (keyring_of means) n x) in
-      let first = passes (spent means) NoKey (made (value_of means.live SharedSecret n)) value q in
+      let first = passes (is_spent means) NoKey (made (value_of means.live SharedSecret n)) value q in
       let same : s.link_of (keyring_of means) n v ≡ value = cc (first.1, value_is means.live SharedSecret n v (secret_there n v [])) in
       subst (Two root last n v) same (made_two s law root last n v one first.0)
 
-module _ (s : Scheme) (law : Lawful s) (c : Call) (sep : ℕ) where
+module _ (s : Scheme) (law : IsLawful s) (c : Call) (sep : ℕ) where
   -- a step does what a call may do
   abbrev Does : Model → Step → Type 0
-  Does m step = Did s c m (settle m sep step)
+  Does m step = Did s c m (effect_of_step m sep step)
 
-  does_fail : (cause : Cause) {m : Model} → Sound s m → Does m (fails m cause)
+  does_fail : (cause : Cause) {m : Model} → HasForm s m → Does m (fault_effect m cause)
   does_fail cause S = did_ended s c conf.Error _ _ refl S
 
-  does_in_session : (service : Service) (step : Step) {m : Model} → Sound s m → (same_service service m.service ≡ true → Does m step) → Does m (in_session m service step)
+  does_in_session : (service : Service) (step : Step) {m : Model} → HasForm s m → (is_same_service service m.service ≡ true → Does m step) → Does m (session_effect m service step)
   does_in_session service step {m} S f =
-      both (not (same_service service m.service)) (Does m) (λ _. does_fail _ S) (λ e. f (not-false (same_service service m.service) e))
+      both (not (is_same_service service m.service)) (Does m) (λ _. does_fail _ S) (λ e. f (not-false (is_same_service service m.service) e))
 
   -- Idle and Select
   module _ {root : List ℕ} {last newest : ℕ} {kept : Service} {role : Role} {old : List ℕ} {number : ℕ} (base : Base root last newest) where
-    does_act_req : (service : Service) (pid : ℕ) (offer seed : List ℕ) → Bytes16 seed → Bytes offer → let m = unlinked (none_live root last newest) st.Idle kept role old number 0 in Does m (on_act_req s m service pid offer seed)
+    does_act_req : (service : Service) (pid : ℕ) (offer seed : List ℕ) → IsBytes16 seed → IsBytes offer → let m = unlinked (none_live root last newest) st.Idle kept role old number 0 in Does m (on_act_req s m service pid offer seed)
     does_act_req service pid offer seed sb ob =
         let m = unlinked (none_live root last newest) st.Idle kept role old number 0 in
-        let S : Sound s m = at_idle base in
+        let S : HasForm s m = at_idle base in
         both (not (eqb pid s.pid)) (Does m) (λ _. does_fail _ S)
         (λ _. each (Does m) m (agreement s m.means seed offer Recipient) _ (λ e. does_fail _ S)
         (λ value q.
         let one = agreed_one s law offer seed Recipient value base sb ob q in
         agrees (at_secret st.EstablishedRecipient (record { low = omega arith; high = omega arith }) one) refl refl (record { newest = refl; live = refl; makes = next_listed newest; destroys = refl }) refl))
 
-    does_act_res : (offer : List ℕ) → Bytes16 old → Bytes offer → let m = unlinked (none_live root last newest) st.Select kept role old number 0 in Does m (on_act_res s m offer)
+    does_act_res : (offer : List ℕ) → IsBytes16 old → IsBytes offer → let m = unlinked (none_live root last newest) st.Select kept role old number 0 in Does m (on_act_res s m offer)
     does_act_res offer long ob =
         let m = unlinked (none_live root last newest) st.Select kept role old number 0 in
         each (Does m) m (agreement s m.means old offer Sender) _ (λ e. does_fail _ (at_select base long))
@@ -105,7 +105,7 @@ module _ (s : Scheme) (law : Lawful s) (c : Call) (sep : ℕ) where
 
   -- Established
   module _ (state : State) (k : SecretOnly state) {root : List ℕ} {last : ℕ} {role : Role} {seed : List ℕ} {number : ℕ} (n : ℕ) (v : List ℕ) (one : One root last n v) where
-    does_link : (reply : List ℕ) (r : Result (List ℕ) SuiteFault) → let m = unlinked (one_live root last n v) state Sch role seed number n in derivation s m.means m.secret ≡ r → Does m (unless m (linked s m r) (λ x. moved x.0 conf.Established x.1 reply))
+    does_link : (reply : List ℕ) (r : Result (List ℕ) SuiteFault) → let m = unlinked (one_live root last n v) state Sch role seed number n in derivation s m.means m.secret ≡ r → Does m (effect_or_fault m (link_start s m r) (λ x. ongoing_effect x.0 conf.Established x.1 reply))
     does_link reply (Err e) q = does_fail _ (at_secret state k one)
     does_link reply (Ok value) q =
         let m = unlinked (one_live root last n v) state Sch role seed number n in
@@ -114,39 +114,39 @@ module _ (s : Scheme) (law : Lawful s) (c : Call) (sep : ℕ) where
         let hi : s.first ≤ s.final = omega arith in
         links (at_sch (derived_two s law n v value one q) lo hi) (not_linked k) refl (record { newest = refl; live = refl; makes = next_listed n; destroys = refl }) refl refl refl refl
 
-    does_confirm : (to : Service) (reply : List ℕ) → let m = unlinked (one_live root last n v) state to role seed number n in Does m (unless m (confirmed s m to) (λ x. moved x.0 conf.Established x.1 reply))
+    does_confirm : (to : Service) (reply : List ℕ) → let m = unlinked (one_live root last n v) state to role seed number n in Does m (effect_or_fault m (service_start s m to) (λ x. ongoing_effect x.0 conf.Established x.1 reply))
     does_confirm Sse reply = outside (at_secret st.ConfirmedSse (record { low = omega arith; high = omega arith }) one) refl (not_linked k) refl (silent refl refl refl)
     does_confirm Sch reply = does_link reply _ refl
 
     does_vfy_res : (service : Service) (check : List ℕ) → let m = unlinked (one_live root last n v) state service role seed number n in Does m (on_vfy_res s m check)
     does_vfy_res service check =
         let m = unlinked (one_live root last n v) state service role seed number n in
-        each (Does m) m (verified s m Recipient check) _ (λ e. does_fail _ (at_secret state k one))
+        each (Does m) m (verification s m Recipient check) _ (λ e. does_fail _ (at_secret state k one))
         (λ _ _. does_confirm service [])
 
     does_vfy_req : (service : Service) (check : List ℕ) → let m = unlinked (one_live root last n v) state service role seed number n in Does m (on_vfy_req s m check)
     does_vfy_req service check =
         let m = unlinked (one_live root last n v) state service role seed number n in
-        each (Does m) m (verified s m Sender check) _ (λ e. does_fail _ (at_secret state k one))
-        (λ _ _. does_confirm service (said_by service (vfy_res (check_value s m Recipient))))
+        each (Does m) m (verification s m Sender check) _ (λ e. does_fail _ (at_secret state k one))
+        (λ _ _. does_confirm service (frame_bytes service (vfy_res (check_value s m Recipient))))
 
 -- a record in Confirmed_SCH with nothing held; copy: it came in the frame with SEP 14 and this payload
-module _ (s : Scheme) (law : Lawful s) (bytes : List ℕ) (beside : Ancillary) (room sep : ℕ) {root : List ℕ} {last n : ℕ} {v w : List ℕ} (role : Role) (old : List ℕ) {number : ℕ} (two : Two root last n v w) (lo : s.first ≤ number) (hi : number ≤ s.final) (payload : List ℕ) (copy : (copies : List (List ℕ)) → CopyIn copies (frame bytes beside room) → In (0x14 ∷ payload) copies) where
+module _ (s : Scheme) (law : IsLawful s) (bytes : List ℕ) (beside : Ancillary) (room sep : ℕ) {root : List ℕ} {last n : ℕ} {v w : List ℕ} (role : Role) (old : List ℕ) {number : ℕ} (two : Two root last n v w) (lo : s.first ≤ number) (hi : number ≤ s.final) (payload : List ℕ) (copy : (copies : List (List ℕ)) → GetsCopy copies (frame bytes beside room) → IsMember (0x14 ∷ payload) copies) where
   abbrev Takes : Step → Type 0
   Takes step = Does s law (frame bytes beside room) sep (in_link (two_live root last n v w) role old number [] n) step
 
-  does_enter : (who num : ℕ) (plain : List ℕ) → let m = in_link (two_live root last n v w) role old number [] n in ((x : List ℕ) → value_in m.means.live LinkKey m.link ≡ Some x → s.open_of (keyring_of m.means) (n + 1) x payload ≡ Some (who, num, plain)) → Takes (entered m plain (sequenced s m (who, num, length plain)))
+  does_enter : (who num : ℕ) (plain : List ℕ) → let m = in_link (two_live root last n v w) role old number [] n in ((x : List ℕ) → value_in m.means.live LinkKey m.link ≡ Some x → s.open_of (keyring_of m.means) (n + 1) x payload ≡ Some (who, num, plain)) → Takes (record_effect m plain (sequence_check s m (who, num, length plain)))
   does_enter who num plain opens =
       let m = in_link (two_live root last n v w) role old number [] n in
-      let S : Sound s m = at_sch two lo hi in
-      let P : Result Bool Cause → Type 0 = λ r. Takes (entered m plain r) in
+      let S : HasForm s m = at_sch two lo hi in
+      let P : Result Bool Cause → Type 0 = λ r. Takes (record_effect m plain r) in
       let bad = λ (cause : Cause). does_fail s law (frame bytes beside room) sep cause S in
-      both (not (record_length (length plain))) P (λ _. bad _)
+      both (not (is_record_length (length plain))) P (λ _. bad _)
       (λ long. both (eqb num number) P (λ _. inside S refl refl refl refl refl (silent refl refl refl) (unmoved number) (λ x e. other refl refl refl))
       (λ _. both (eqb who (role_byte role)) P (λ _. bad _)
       (λ theirs. both (not (eqb num (number + 1)) || ltb s.final num) P (λ _. bad _)
       (λ e.
-      let full = and_parts (not (is_empty plain)) (not (ltb 200 (length plain))) (not-false (record_length (length plain)) long) in
+      let full = and_parts (not (is_empty plain)) (not (ltb 200 (length plain))) (not-false (is_record_length (length plain)) long) in
       let parts = or_parts (not (eqb num (number + 1))) (ltb s.final num) e in
       let same : num ≡ number + 1 = eqb-true num (number + 1) (not-false (eqb num (number + 1)) parts.0) in
       let below : num ≤ s.final = ltb-false s.final num parts.1 in
@@ -162,84 +162,84 @@ module _ (s : Scheme) (law : Lawful s) (bytes : List ℕ) (beside : Ancillary) (
       each Takes m (opened_record s m payload) _ (λ e. does_fail s law (frame bytes beside room) sep _ (at_sch two lo hi))
       (λ t q. does_enter t.0 t.1 t.2 (λ x e. ap (λ y. s.open_of (keyring_of m.means) m.link y payload) (sym (value_is m.means.live LinkKey m.link x e)) ∙ good_is (s.open_of (keyring_of m.means) m.link (link_value m) payload) t q))
 
-module _ (s : Scheme) (law : Lawful s) (bytes : List ℕ) (beside : Ancillary) (room sep : ℕ) (given : Bytes bytes × Bytes16 beside.seed) (service : Service) where
-  abbrev Hears : Model → Said → Type 0
-  Hears m said = Does s law (frame bytes beside room) sep m (by_state s m beside service m.state said)
+module _ (s : Scheme) (law : IsLawful s) (bytes : List ℕ) (beside : Ancillary) (room sep : ℕ) (given : IsBytes bytes × IsBytes16 beside.seed) (service : Service) where
+  abbrev Hears : Model → Contents → Type 0
+  Hears m contents = Does s law (frame bytes beside room) sep m (message_effect s m beside service m.state contents)
 
-  abbrev Read : Said → Type 0
-  Read said = reading bytes ≡ message (record { service = service; said = said })
+  abbrev Read : Contents → Type 0
+  Read contents = reading bytes ≡ message (record { service = service; contents = contents })
 
-  hears_idle : (said : Said) → Read said → {root : List ℕ} {last newest : ℕ} {kept : Service} {role : Role} {old : List ℕ} {number : ℕ} → Base root last newest → Hears (unlinked (none_live root last newest) st.Idle kept role old number 0) said
+  hears_idle : (contents : Contents) → Read contents → {root : List ℕ} {last newest : ℕ} {kept : Service} {role : Role} {old : List ℕ} {number : ℕ} → Base root last newest → Hears (unlinked (none_live root last newest) st.Idle kept role old number 0) contents
   hears_idle (error p) r base = did_ended s _ conf.Error _ _ refl (at_idle base)
   hears_idle (act_req pid offer) r base = does_act_req s law _ sep base service pid offer beside.seed given.1 (fields_bytes bytes _ r given.0).1
-  hears_idle said r base = does_fail s law _ sep _ (at_idle base)
+  hears_idle contents r base = does_fail s law _ sep _ (at_idle base)
 
-  hears_select : (said : Said) → Read said → {root : List ℕ} {last newest : ℕ} {kept : Service} {role : Role} {old : List ℕ} {number : ℕ} → Base root last newest → Bytes16 old → Hears (unlinked (none_live root last newest) st.Select kept role old number 0) said
+  hears_select : (contents : Contents) → Read contents → {root : List ℕ} {last newest : ℕ} {kept : Service} {role : Role} {old : List ℕ} {number : ℕ} → Base root last newest → IsBytes16 old → Hears (unlinked (none_live root last newest) st.Select kept role old number 0) contents
   hears_select (error p) r base long = did_ended s _ conf.Error _ _ refl (at_select base long)
   hears_select (act_res offer) r base long = does_in_session s law _ sep service _ (at_select base long) (λ _. does_act_res s law _ sep base offer long (fields_bytes bytes _ r given.0))
-  hears_select said r base long = does_fail s law _ sep _ (at_select base long)
+  hears_select contents r base long = does_fail s law _ sep _ (at_select base long)
 
   module _ {root : List ℕ} {last n : ℕ} {v : List ℕ} {kept : Service} {role : Role} {old : List ℕ} {number : ℕ} (one : One root last n v) where
-    hears_sender : (k : SecretOnly st.EstablishedSender) (said : Said) → Hears (unlinked (one_live root last n v) st.EstablishedSender kept role old number n) said
+    hears_sender : (k : SecretOnly st.EstablishedSender) (contents : Contents) → Hears (unlinked (one_live root last n v) st.EstablishedSender kept role old number n) contents
     hears_sender k (error p) = did_ended s _ conf.Error _ _ refl (at_secret _ k one)
     hears_sender k (vfy_res check) = does_in_session s law _ sep service _ (at_secret _ k one) (λ _. does_vfy_res s law _ sep _ k n v one _ check)
-    hears_sender k said = does_fail s law _ sep _ (at_secret _ k one)
+    hears_sender k contents = does_fail s law _ sep _ (at_secret _ k one)
 
-    hears_recipient : (k : SecretOnly st.EstablishedRecipient) (said : Said) → Hears (unlinked (one_live root last n v) st.EstablishedRecipient kept role old number n) said
+    hears_recipient : (k : SecretOnly st.EstablishedRecipient) (contents : Contents) → Hears (unlinked (one_live root last n v) st.EstablishedRecipient kept role old number n) contents
     hears_recipient k (error p) = did_ended s _ conf.Error _ _ refl (at_secret _ k one)
     hears_recipient k (vfy_req check) = does_in_session s law _ sep service _ (at_secret _ k one) (λ _. does_vfy_req s law _ sep _ k n v one _ check)
-    hears_recipient k said = does_fail s law _ sep _ (at_secret _ k one)
+    hears_recipient k contents = does_fail s law _ sep _ (at_secret _ k one)
 
-    hears_sse : (k : SecretOnly st.ConfirmedSse) (said : Said) → Hears (unlinked (one_live root last n v) st.ConfirmedSse kept role old number n) said
+    hears_sse : (k : SecretOnly st.ConfirmedSse) (contents : Contents) → Hears (unlinked (one_live root last n v) st.ConfirmedSse kept role old number n) contents
     hears_sse k (error p) = did_ended s _ conf.Error _ _ refl (at_secret _ k one)
     hears_sse k (tmn p) = does_in_session s law _ sep service _ (at_secret _ k one) (λ _. did_ended s _ conf.Terminated _ _ refl (at_secret _ k one))
-    hears_sse k said = does_fail s law _ sep _ (at_secret _ k one)
+    hears_sse k contents = does_fail s law _ sep _ (at_secret _ k one)
 
-    hears_secret : (state : State) → SecretOnly state → (said : Said) → Hears (unlinked (one_live root last n v) state kept role old number n) said
-    hears_secret st.Idle k said = absurd (omega arith)
-    hears_secret st.Select k said = absurd (omega arith)
-    hears_secret st.EstablishedSender k said = hears_sender k said
-    hears_secret st.EstablishedRecipient k said = hears_recipient k said
-    hears_secret st.ConfirmedSse k said = hears_sse k said
-    hears_secret st.ConfirmedSch k said = absurd (omega arith)
+    hears_secret : (state : State) → SecretOnly state → (contents : Contents) → Hears (unlinked (one_live root last n v) state kept role old number n) contents
+    hears_secret st.Idle k contents = absurd (omega arith)
+    hears_secret st.Select k contents = absurd (omega arith)
+    hears_secret st.EstablishedSender k contents = hears_sender k contents
+    hears_secret st.EstablishedRecipient k contents = hears_recipient k contents
+    hears_secret st.ConfirmedSse k contents = hears_sse k contents
+    hears_secret st.ConfirmedSch k contents = absurd (omega arith)
 
   -- the bytes of a record of a link session
-  record_bytes : (payload : List ℕ) → Read (enc payload) → same_service service Sch ≡ true → 0x14 ∷ payload ≡ bytes
+  record_bytes : (payload : List ℕ) → Read (enc payload) → is_same_service service Sch ≡ true → 0x14 ∷ payload ≡ bytes
   record_bytes payload r same =
       let code : service_code service ≡ 1 = eqb-true (service_code service) 1 same in
       ap (λ k. (k * 16 + 4) ∷ payload) (sym code) ∙ read_is bytes _ r
 
   -- a record is taken where nothing is held; of the other service it is a fault
   hears_enc : (payload : List ℕ) → Read (enc payload) → {root : List ℕ} {last n : ℕ} {v w : List ℕ} {role : Role} {old : List ℕ} {number : ℕ} (held : List ℕ) → Two root last n v w → s.first ≤ number → number ≤ s.final
-      → let m = in_link (two_live root last n v w) role old number held n in blocked m (record { service = service; said = enc payload }) ≡ false → Hears m (enc payload)
+      → let m = in_link (two_live root last n v w) role old number held n in is_blocked m (record { service = service; contents = enc payload }) ≡ false → Hears m (enc payload)
   hears_enc payload r (x ∷ held) two lo hi free =
       does_in_session s law _ sep service _ (at_sch two lo hi)
       (λ same.
       let some : eqb (length (x ∷ held)) 0 ≡ false = ne_eqb (length (x ∷ held)) 0 (λ e. omega arith) in
-      let full : (same_service service Sch && not (is_empty (x ∷ held))) ≡ true = rw (same, some) in
+      let full : (is_same_service service Sch && not (is_empty (x ∷ held))) ≡ true = rw (same, some) in
       clash _ free full)
   hears_enc payload r {role} {old} [] two lo hi free =
       does_in_session s law _ sep service _ (at_sch two lo hi)
-      (λ same. does_enc s law bytes beside room sep role old two lo hi payload (λ copies f. subst (CopyOf copies) (sym (record_bytes payload r same)) f refl))
+      (λ same. does_enc s law bytes beside room sep role old two lo hi payload (λ copies f. subst (IsCopyIfEnc copies) (sym (record_bytes payload r same)) f refl))
 
-  hears_link : (said : Said) → Read said → {root : List ℕ} {last n : ℕ} {v w : List ℕ} {role : Role} {old : List ℕ} {number : ℕ} (held : List ℕ) → Two root last n v w → s.first ≤ number → number ≤ s.final
-      → let m = in_link (two_live root last n v w) role old number held n in blocked m (record { service = service; said = said }) ≡ false → Hears m said
+  hears_link : (contents : Contents) → Read contents → {root : List ℕ} {last n : ℕ} {v w : List ℕ} {role : Role} {old : List ℕ} {number : ℕ} (held : List ℕ) → Two root last n v w → s.first ≤ number → number ≤ s.final
+      → let m = in_link (two_live root last n v w) role old number held n in is_blocked m (record { service = service; contents = contents }) ≡ false → Hears m contents
   hears_link (error p) r held two lo hi free = did_ended s _ conf.Error _ _ refl (at_sch two lo hi)
   hears_link (tmn p) r held two lo hi free = does_in_session s law _ sep service _ (at_sch two lo hi) (λ _. did_ended s _ conf.Terminated _ _ refl (at_sch two lo hi))
   hears_link (enc payload) r held two lo hi free = hears_enc payload r held two lo hi free
-  hears_link said r held two lo hi free = does_fail s law _ sep _ (at_sch two lo hi)
+  hears_link contents r held two lo hi free = does_fail s law _ sep _ (at_sch two lo hi)
 
-  hears : (said : Said) → Read said → {m : Model} → Sound s m → blocked m (record { service = service; said = said }) ≡ false → Hears m said
-  hears said r (at_idle base) free = hears_idle said r base
-  hears said r (at_select base long) free = hears_select said r base long
-  hears said r (at_secret state k one) free = hears_secret one state k said
-  hears said r (at_sch {held} two lo hi) free = hears_link said r held two lo hi free
+  hears : (contents : Contents) → Read contents → {m : Model} → HasForm s m → is_blocked m (record { service = service; contents = contents }) ≡ false → Hears m contents
+  hears contents r (at_idle base) free = hears_idle contents r base
+  hears contents r (at_select base long) free = hears_select contents r base long
+  hears contents r (at_secret state k one) free = hears_secret one state k contents
+  hears contents r (at_sch {held} two lo hi) free = hears_link contents r held two lo hi free
 
 -- a frame that was read, or not
-pub did_taken : (s : Scheme) → Lawful s → (bytes : List ℕ) (beside : Ancillary) (room sep : ℕ) → Bytes bytes × Bytes16 beside.seed → (r : Reading) → reading bytes ≡ r → {m : Model} → Sound s m → Did s (frame bytes beside room) m (taken s m beside sep (admitted m r))
+pub did_taken : (s : Scheme) → IsLawful s → (bytes : List ℕ) (beside : Ancillary) (room sep : ℕ) → IsBytes bytes × IsBytes16 beside.seed → (r : Reading) → reading bytes ≡ r → {m : Model} → HasForm s m → Did s (frame bytes beside room) m (admitted_effect s m beside sep (admission m r))
 did_taken s law bytes beside room sep given (unread number) e S = did_refused s _ no.FrameLength S
 did_taken s law bytes beside room sep given (fault code) e S = does_fail s law _ sep _ S
 did_taken s law bytes beside room sep given (message p) e {m} S =
-    both (blocked m p) (λ a. Did s (frame bytes beside room) m (taken s m beside sep a))
+    both (is_blocked m p) (λ a. Did s (frame bytes beside room) m (admitted_effect s m beside sep a))
     (λ _. did_refused s _ no.DataHeld S)
-    (λ free. hears s law bytes beside room sep given p.service p.said e S free)
+    (λ free. hears s law bytes beside room sep given p.service p.contents e S free)

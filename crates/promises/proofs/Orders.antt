@@ -1,7 +1,7 @@
 -- Numbered records, the newest first.
 use Rattle.std.proofs.Common.{◌≡◌, ℕ, ◌+◌, ◌<◌, ◌≤◌, ◌⊎◌, List, [], ◌∷◌, ◌++◌, sym, refl, ap, ◌∙◌, subst, inl, inr, append_assoc, append-nil, arith}
 use Rattle.std.proofs.lemmas.Bool.{cases_lt}
-use Rattle.histories.specs.Sessions.{Part, done, skip, use', Begins}
+use Rattle.histories.specs.Sessions.{IsSubsequence, done, skip, use', IsPrefix}
 
 -- a record by its number and its data
 pub record Rec : Type 0 where
@@ -52,21 +52,21 @@ has_same b n d e (r ∷ X) p h k =
       ]
     ]
 
-part_more : {xs ys : List (List ℕ)} (zs : List (List ℕ)) → Part xs ys → Part xs (ys ++ zs)
+part_more : {xs ys : List (List ℕ)} (zs : List (List ℕ)) → IsSubsequence xs ys → IsSubsequence xs (ys ++ zs)
 part_more zs done = done
 part_more zs (skip p) = skip (part_more zs p)
 part_more zs (use' p) = use' (part_more zs p)
 
-part_end : (x : List ℕ) (ys : List (List ℕ)) → Part (x ∷ []) (ys ++ (x ∷ []))
+part_end : (x : List ℕ) (ys : List (List ℕ)) → IsSubsequence (x ∷ []) (ys ++ (x ∷ []))
 part_end x [] = use' done
 part_end x (y ∷ ys) = skip (part_end x ys)
 
-part_both : {xs ys : List (List ℕ)} (x : List ℕ) → Part xs ys → Part (xs ++ (x ∷ [])) (ys ++ (x ∷ []))
+part_both : {xs ys : List (List ℕ)} (x : List ℕ) → IsSubsequence xs ys → IsSubsequence (xs ++ (x ∷ [])) (ys ++ (x ∷ []))
 part_both x (done {ys}) = part_end x ys
 part_both x (skip p) = skip (part_both x p)
 part_both x (use' p) = use' (part_both x p)
 
-pub part_front : {ws ys : List (List ℕ)} → Part ws ys → (xs zs : List (List ℕ)) → ws ≡ xs ++ zs → Part xs ys
+pub part_front : {ws ys : List (List ℕ)} → IsSubsequence ws ys → (xs zs : List (List ℕ)) → ws ≡ xs ++ zs → IsSubsequence xs ys
 part_front done [] zs e = done
 part_front done (x ∷ xs) zs e = absurd (cc)
 part_front (skip p) xs zs e = skip (part_front p xs zs e)
@@ -74,7 +74,7 @@ part_front (use' p) [] zs e = done
 part_front (use' {x = w} {xs = ws} {ys} p) (x ∷ xs) zs e =
     let h : w ≡ x = cc in
     let t : ws ≡ xs ++ zs = cc in
-    subst (λ z. Part (z ∷ xs) (w ∷ ys)) h (use' (part_front p xs zs t))
+    subst (λ z. IsSubsequence (z ∷ xs) (w ∷ ys)) h (use' (part_front p xs zs t))
 
 -- the same head taken off both
 tails : (x y : Rec) (X Y : List Rec) (n : ℕ) (d : List ℕ) → x.num ≡ y.num → Desc x.num X → Has n d X → Has n d (y ∷ Y) → Has n d Y
@@ -92,15 +92,15 @@ above y b X Y n d e p h (inl q) =
     absurd (omega arith)
 above y b X Y n d e p h (inr k) = k
 
-pub sub_part : (b c : ℕ) (X Y : List Rec) → Desc b X → Desc c Y → Sub X Y → Part (to_data X) (to_data Y)
+pub sub_part : (b c : ℕ) (X Y : List Rec) → Desc b X → Desc c Y → Sub X Y → IsSubsequence (to_data X) (to_data Y)
 sub_part b c [] [] p q f = done
 sub_part b c (x ∷ X) [] p q f = absurd (f x.num x.bytes (inl (refl, refl)))
 sub_part b c [] (y ∷ Y) p q f = done
 sub_part b c (x ∷ X) (y ∷ Y) p q f =
     elim (f x.num x.bytes (inl (refl, refl))) [
       | inl e ↦
-          let rest : Part (to_data X) (to_data Y) = sub_part x.num y.num X Y p.1 q.1 (λ n d h. tails x y X Y n d e.0 p.1 h (f n d (inr h))) in
-          subst (λ z. Part (to_data X ++ (x.bytes ∷ [])) (to_data Y ++ (z ∷ []))) e.1 (part_both x.bytes rest)
+          let rest : IsSubsequence (to_data X) (to_data Y) = sub_part x.num y.num X Y p.1 q.1 (λ n d h. tails x y X Y n d e.0 p.1 h (f n d (inr h))) in
+          subst (λ z. IsSubsequence (to_data X ++ (x.bytes ∷ [])) (to_data Y ++ (z ∷ []))) e.1 (part_both x.bytes rest)
       | inr h ↦
           let l : x.num < y.num = has_below y.num x.num x.bytes Y q.1 h in
           let low : Desc (x.num + 1) (x ∷ X) = ((omega arith), p.1) in
@@ -126,7 +126,7 @@ sub_same b c (x ∷ X) (y ∷ Y) p q f g =
     ap (λ z. z ++ (x.bytes ∷ [])) rest ∙ ap (λ z. to_data Y ++ (z ∷ [])) heads.1
 
 -- all of Y up to m stands in X, and X goes no further
-pub sub_begins : (m c : ℕ) (X Y : List Rec) → Desc (m + 1) X → Desc c Y → Sub X Y → ((n : ℕ) (d : List ℕ) → Has n d Y → n ≤ m → Has n d X) → Begins (to_data X) (to_data Y)
+pub sub_begins : (m c : ℕ) (X Y : List Rec) → Desc (m + 1) X → Desc c Y → Sub X Y → ((n : ℕ) (d : List ℕ) → Has n d Y → n ≤ m → Has n d X) → IsPrefix (to_data X) (to_data Y)
 sub_begins m c [] [] p q f g = ([], refl)
 sub_begins m c (x ∷ X) [] p q f g = absurd (f x.num x.bytes (inl (refl, refl)))
 sub_begins m c [] (y ∷ Y) p q f g = (to_data Y ++ (y.bytes ∷ []), refl)

@@ -3,17 +3,17 @@ use Rattle.std.proofs.Common.{◌≡◌, ℕ, ◌+◌, ◌<◌, true, false, Lis
 use Rattle.std.specs.List.{AllByRecursion}
 use Rattle.suite.specs.declared.types.KeyKind.TheVariants.{LinkKey}
 use Rattle.suite.specs.Meanings.{value_in}
-use Rattle.suite.specs.Schemes.{Scheme, Lawful}
+use Rattle.suite.specs.Schemes.{Scheme, IsLawful}
 use Rattle.protocol.specs.declared.states.State.TheVariants.{ConfirmedSch}
 use Rattle.protocol.specs.Models.{Model}
-use Rattle.protocol.specs.Calls.{Turn, Call, GivenBytes, turn, in_state}
-use Rattle.histories.specs.Histories.{Entry, History, Fresh, after, history, entered, made, destroyed, made_in, destroyed_in, started_by, member, Runs, starts, goes_on, Running, sent, taken, sent_in, taken_in}
-use Rattle.promises.specs.Promises.{serials}
+use Rattle.protocol.specs.Calls.{CallEffect, Call, IsGivenBytes, call_effect, is_in_state}
+use Rattle.histories.specs.Histories.{Entry, History, IsFresh, entity_after, history, entry_of, serials_made, serials_destroyed, serials_made_in, serials_destroyed_in, session_started, is_member, Runs, starts, goes_on, SomeRuns, data_sent, frames_received, data_sent_in, frames_received_in}
+use Rattle.promises.specs.Promises.{live_serials}
 use Rattle.promises.proofs.Cases.{clash}
 use Rattle.promises.proofs.Books.{Books, no_books, books_made, books_same, books_cleared, Clears}
 use Rattle.promises.proofs.Forms.{base_of}
 use Rattle.promises.proofs.Ledgers.{End, Act, Ledger, start, more}
-use Rattle.promises.proofs.Sounds.{Sound, at_idle, in_sch, end_of, Silent, MakesNext, Did, outside, inside, agrees, links, ends}
+use Rattle.promises.proofs.EntityForms.{HasForm, at_idle, in_sch, end_of, Silent, MakesNext, Did, outside, inside, agrees, links, ends}
 use Rattle.promises.proofs.Requests.{did}
 use Rattle.promises.proofs.Tellings.{Orderly}
 
@@ -21,15 +21,15 @@ use Rattle.promises.proofs.Tellings.{Orderly}
 pub record Fits (s : Scheme) (m : Model) (n : ℕ) (since : History) : Type 0 where
   pub linked : in_sch m ≡ true
   pub key : n ≡ m.link
-  pub number : m.number ≡ (s.first + length (sent since)) + length (taken since)
+  pub number : m.number ≡ (s.first + length (data_sent since)) + length (frames_received since)
   pub ledger : (w : List ℕ) → value_in m.means.live LinkKey m.link ≡ Some w → Ledger s w (end_of m) since m.number m.held
 
 -- what holds after a history
 pub record Holds (s : Scheme) (m : Model) (h : History) : Type 0 where
-  pub sound : Sound s m
-  pub books : Books m.means.newest (serials m.means) (made h) (destroyed h)
+  pub sound : HasForm s m
+  pub books : Books m.means.newest (live_serials m.means) (serials_made h) (serials_destroyed h)
   pub all : (n : ℕ) (since : History) → Runs n h since → Fits s m n since
-  pub some : in_sch m ≡ true → Running h
+  pub some : in_sch m ≡ true → SomeRuns h
 
 zero_start : {X : Type 0} (n k : ℕ) → 0 < n → k ≡ n → k ≡ 0 → X
 zero_start n k p e z = absurd (omega arith)
@@ -37,15 +37,15 @@ zero_start n k p e z = absurd (omega arith)
 counted : (f a b m m' : ℕ) (xs ys us vs : List (List ℕ)) → length ys ≡ a → length vs ≡ b → m ≡ (f + length xs) + length us → m' ≡ (m + a) + b → m' ≡ (f + length (xs ++ ys)) + length (us ++ vs)
 counted f a b m m' xs ys us vs q t e e' = simp length-append (omega arith)
 
-module _ (s : Scheme) (c : Call) {m : Model} {h : History} (H : Holds s m h) (t : Turn) where
+module _ (s : Scheme) (c : Call) {m : Model} {h : History} (H : Holds s m h) (t : CallEffect) where
   abbrev now : Entry
-  now = entered c t
+  now = entry_of c t
 
   none_ran : in_sch m ≡ false → {X : Type 0} → (n : ℕ) (since : History) → Runs n h since → X
   none_ran o n since r = clash (in_sch m) o (H.all n since r).linked
 
   -- where no session ran and none starts, none runs
-  fits_none : in_sch m ≡ false → started_by t.answer ≡ 0 → (n : ℕ) (since : History) → Runs n (now ∷ h) since → Fits s t.model n since
+  fits_none : in_sch m ≡ false → session_started t.answer ≡ 0 → (n : ℕ) (since : History) → Runs n (now ∷ h) since → Fits s t.model n since
   fits_none o z n since (starts pos q) = zero_start n _ pos q z
   fits_none o z n since (goes_on r k) = none_ran o n _ r
 
@@ -59,7 +59,7 @@ module _ (s : Scheme) (c : Call) {m : Model} {h : History} (H : Holds s m h) (t 
       let new : Ledger s w (end_of m) (now ∷ since) t.model.number t.model.held = more (was w q') (act w q') in
       subst (λ (z : End). Ledger s w z (now ∷ since) t.model.number t.model.held) (sym ee) new
 
-  fits_inside : in_sch t.model ≡ true → t.model.means ≡ m.means → t.model.link ≡ m.link → end_of t.model ≡ end_of m → started_by t.answer ≡ 0 → t.model.number ≡ (m.number + length (sent_in now)) + length (taken_in now)
+  fits_inside : in_sch t.model ≡ true → t.model.means ≡ m.means → t.model.link ≡ m.link → end_of t.model ≡ end_of m → session_started t.answer ≡ 0 → t.model.number ≡ (m.number + length (data_sent_in now)) + length (frames_received_in now)
       → ((w : List ℕ) → value_in m.means.live LinkKey m.link ≡ Some w → Act s w (end_of m) now m.number m.held t.model.number t.model.held)
       → (n : ℕ) (since : History) → Runs n (now ∷ h) since → Fits s t.model n since
   fits_inside a em el ee z num act n since (starts pos q) = zero_start n _ pos q z
@@ -68,15 +68,15 @@ module _ (s : Scheme) (c : Call) {m : Model} {h : History} (H : Holds s m h) (t 
       record {
         linked = a;
         key = was.key ∙ sym el;
-        number = counted s.first (length (sent_in now)) (length (taken_in now)) m.number t.model.number (sent before) (sent_in now) (taken before) (taken_in now) refl refl was.number num;
+        number = counted s.first (length (data_sent_in now)) (length (frames_received_in now)) m.number t.model.number (data_sent before) (data_sent_in now) (frames_received before) (frames_received_in now) refl refl was.number num;
         ledger = ledger_inside em el ee act was.ledger;
       }
 
-  some_inside : destroyed_in t.answer ≡ [] → Running h → Running (now ∷ h)
-  some_inside d (n, (since, r)) = (n, (now ∷ since, goes_on r (ap (member n) d)))
+  some_inside : serials_destroyed_in t.answer ≡ [] → SomeRuns h → SomeRuns (now ∷ h)
+  some_inside d (n, (since, r)) = (n, (now ∷ since, goes_on r (ap (is_member n) d)))
 
   -- a session starts
-  fits_link : in_sch m ≡ false → in_sch t.model ≡ true → started_by t.answer ≡ m.means.newest + 1 → t.model.link ≡ m.means.newest + 1 → t.model.number ≡ s.first → t.model.held ≡ [] → (n : ℕ) (since : History) → Runs n (now ∷ h) since → Fits s t.model n since
+  fits_link : in_sch m ≡ false → in_sch t.model ≡ true → session_started t.answer ≡ m.means.newest + 1 → t.model.link ≡ m.means.newest + 1 → t.model.number ≡ s.first → t.model.held ≡ [] → (n : ℕ) (since : History) → Runs n (now ∷ h) since → Fits s t.model n since
   fits_link o a z l num nh n since (starts pos q) = record {
     linked = a;
     key = sym q ∙ z ∙ sym l;
@@ -86,14 +86,14 @@ module _ (s : Scheme) (c : Call) {m : Model} {h : History} (H : Holds s m h) (t 
   fits_link o a z l num nh n since (goes_on r k) = none_ran o n _ r
 
   -- the session that ran is over
-  fits_ends : started_by t.answer ≡ 0 → (in_sch m ≡ true → member m.link (destroyed_in t.answer) ≡ true) → (n : ℕ) (since : History) → Runs n (now ∷ h) since → Fits s t.model n since
+  fits_ends : session_started t.answer ≡ 0 → (in_sch m ≡ true → is_member m.link (serials_destroyed_in t.answer) ≡ true) → (n : ℕ) (since : History) → Runs n (now ∷ h) since → Fits s t.model n since
   fits_ends z d n since (starts pos q) = zero_start n _ pos q z
   fits_ends z d n since (goes_on {since = before} r k) =
       let was = H.all n before r in
-      clash (member n (destroyed_in t.answer)) k (ap (λ j. member j (destroyed_in t.answer)) was.key ∙ d was.linked)
+      clash (is_member n (serials_destroyed_in t.answer)) k (ap (λ j. is_member j (serials_destroyed_in t.answer)) was.key ∙ d was.linked)
 
   abbrev NextBooks : Type 0
-  NextBooks = Books t.model.means.newest (serials t.model.means) (made h ++ made_in t.answer) (destroyed h ++ destroyed_in t.answer)
+  NextBooks = Books t.model.means.newest (live_serials t.model.means) (serials_made h ++ serials_made_in t.answer) (serials_destroyed h ++ serials_destroyed_in t.answer)
 
   books_silent : t.model.means ≡ m.means → Silent t.answer → NextBooks
   books_silent em q =
@@ -109,7 +109,7 @@ module _ (s : Scheme) (c : Call) {m : Model} {h : History} (H : Holds s m h) (t 
       let d = q.destroys in
       rw (new, live, k, d) (books_made _ _ _ _ H.books)
 
-  books_ended : t.model.means.newest ≡ m.means.newest → serials t.model.means ≡ [] → made_in t.answer ≡ [] → Clears (serials m.means) (destroyed_in t.answer) → NextBooks
+  books_ended : t.model.means.newest ≡ m.means.newest → live_serials t.model.means ≡ [] → serials_made_in t.answer ≡ [] → Clears (live_serials m.means) (serials_destroyed_in t.answer) → NextBooks
   books_ended new live k cl = rw (new, live, k) (books_cleared _ _ _ cl H.books)
 
   held_on : Did s c m t → Holds s t.model (now ∷ h)
@@ -120,7 +120,7 @@ module _ (s : Scheme) (c : Call) {m : Model} {h : History} (H : Holds s m h) (t 
   held_on (ends S o new live k z cl d) = record { sound = S; books = books_ended new live k cl; all = fits_ends z d; some = λ x. clash _ o x }
 
   -- a call made while a session runs starts none
-  pub starts_none : Did s c m t → Running h → started_by t.answer ≡ 0
+  pub starts_none : Did s c m t → SomeRuns h → session_started t.answer ≡ 0
   starts_none (outside S em o o' q) x = q.begins
   starts_none (inside S em i i' el ee q num act) x = q.begins
   starts_none (agrees S o o' q z) x = z
@@ -130,22 +130,22 @@ module _ (s : Scheme) (c : Call) {m : Model} {h : History} (H : Holds s m h) (t 
 not_yet : {X : Type 0} {n : ℕ} {since : History} → Runs n [] since → X
 not_yet = elim [ ]
 
-module _ (s : Scheme) (law : Lawful s) (m : Model) where
-  sound_first : Fresh m → Sound s m
+module _ (s : Scheme) (law : IsLawful s) (m : Model) where
+  sound_first : IsFresh m → HasForm s m
   sound_first f = rw (f.no_live, f.idle, f.none_held, f.no_secret, f.no_link) (at_idle (base_of f.formed))
 
-  holds_first : Fresh m → Holds s m []
+  holds_first : IsFresh m → Holds s m []
   holds_first f =
-      let books : Books m.means.newest (serials m.means) [] [] = rw f.no_live (no_books _) in
-      record { sound = sound_first f; books = books; all = λ n since r. not_yet r; some = λ x. clash (in_sch m) (ap (λ z. in_state (record m { state = z }) ConfirmedSch) f.idle) x }
+      let books : Books m.means.newest (live_serials m.means) [] [] = rw f.no_live (no_books _) in
+      record { sound = sound_first f; books = books; all = λ n since r. not_yet r; some = λ x. clash (in_sch m) (ap (λ z. is_in_state (record m { state = z }) ConfirmedSch) f.idle) x }
 
-  pub holds : Fresh m → (calls : List Call) → AllByRecursion GivenBytes calls → Holds s (after s m calls) (history s m calls)
+  pub holds : IsFresh m → (calls : List Call) → AllByRecursion IsGivenBytes calls → Holds s (entity_after s m calls) (history s m calls)
   holds f [] given = holds_first f
-  holds f (c ∷ before) given = held_on s c (holds f before given.1) (turn s (after s m before) c) (did s law c given.0 (holds f before given.1).sound)
+  holds f (c ∷ before) given = held_on s c (holds f before given.1) (call_effect s (entity_after s m before) c) (did s law c given.0 (holds f before given.1).sound)
 
   -- so no session starts while one runs
-  pub orderly : Fresh m → (calls : List Call) → AllByRecursion GivenBytes calls → Orderly (history s m calls)
+  pub orderly : IsFresh m → (calls : List Call) → AllByRecursion IsGivenBytes calls → Orderly (history s m calls)
   orderly f [] given = tt
   orderly f (c ∷ before) given =
       let H = holds f before given.1 in
-      (starts_none s c H (turn s (after s m before) c) (did s law c given.0 H.sound), orderly f before given.1)
+      (starts_none s c H (call_effect s (entity_after s m before) c) (did s law c given.0 H.sound), orderly f before given.1)

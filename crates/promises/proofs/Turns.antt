@@ -9,22 +9,22 @@ use Rattle.protocol.specs.declared.refusals.Refusal.{Refusal}
 use Rattle.protocol.specs.declared.faults.Fault.{Fault}
 use Rattle.protocol.specs.Numbers.{state_mark, confirmation_number}
 use Rattle.protocol.specs.Models.{Model, without_key}
-use Rattle.protocol.specs.Calls.{Call, invoke, send, retrieve_data, retrieve_secret, terminate, frame, release, refused, ended}
-use Rattle.histories.specs.Histories.{member, listed, hands, made_in, destroyed_in, started_by}
+use Rattle.protocol.specs.Calls.{Call, invoke, send, retrieve_data, retrieve_secret, terminate, frame, release, refusal_effect, ended}
+use Rattle.histories.specs.Histories.{is_member, serial_list, is_retrieved_by, serials_made_in, serials_destroyed_in, session_started}
 use Rattle.promises.proofs.Cases.{clash}
 use Rattle.promises.proofs.Books.{Clears, none, one, two}
 use Rattle.promises.proofs.Forms.{none_live, one_live, two_live}
 use Rattle.promises.proofs.Ledgers.{other}
-use Rattle.promises.proofs.Sounds.{SecretOnly, Sound, at_idle, at_select, at_secret, at_sch, in_sch, Silent, Did, outside, inside, ends}
+use Rattle.promises.proofs.EntityForms.{SecretOnly, HasForm, at_idle, at_select, at_secret, at_sch, in_sch, Silent, Did, outside, inside, ends}
 
-pub silent : {a : Result Outcome Refusal} → made_in a ≡ [] → destroyed_in a ≡ [] → started_by a ≡ 0 → Silent a
+pub silent : {a : Result Outcome Refusal} → serials_made_in a ≡ [] → serials_destroyed_in a ≡ [] → session_started a ≡ 0 → Silent a
 silent p q r = record { makes = p; destroys = q; begins = r }
 
 -- a number that rises by no record
 pub unmoved : (n : ℕ) → n ≡ (n + 0) + 0
 unmoved n = omega arith
 
-none_handed : (r : Refusal) (c : Call) → hands (Err r) c ≡ false
+none_handed : (r : Refusal) (c : Call) → is_retrieved_by (Err r) c ≡ false
 none_handed r (invoke service pid seed room) = refl
 none_handed r (send plain room) = refl
 none_handed r (retrieve_data room) = refl
@@ -33,7 +33,7 @@ none_handed r (terminate room) = refl
 none_handed r (frame bytes beside room) = refl
 none_handed r release = refl
 
-pub did_refused : (s : Scheme) (c : Call) (r : Refusal) {m : Model} → Sound s m → Did s c m (refused m r)
+pub did_refused : (s : Scheme) (c : Call) (r : Refusal) {m : Model} → HasForm s m → Did s c m (refusal_effect m r)
 did_refused s c r {m} S =
     elim (cases_Bool (in_sch m)) [
       | inl t ↦ inside S refl t t refl refl (silent refl refl refl) (unmoved m.number) (λ w e. other refl refl (none_handed r c))
@@ -52,17 +52,17 @@ above_zero n h = ne_eqb n 0 (λ e. omega arith)
 none_started : (b : Bool) → b ≡ false → ◌≡◌ {A = ℕ} (cond b 0 0) 0
 none_started b e = rw e
 
-one_cleared : (n : ℕ) → 0 < n → Clears (n ∷ []) (listed n)
+one_cleared : (n : ℕ) → 0 < n → Clears (n ∷ []) (serial_list n)
 one_cleared n h = let ne = above_zero n h in rw ne one
 
-two_cleared : (n : ℕ) → 0 < n → Clears (n ∷ (n + 1) ∷ []) (listed (n + 1) ++ listed n)
+two_cleared : (n : ℕ) → 0 < n → Clears (n ∷ (n + 1) ∷ []) (serial_list (n + 1) ++ serial_list n)
 two_cleared n h =
     let ne = above_zero n h in
     let ne' = above_zero (n + 1) (omega arith) in
     let differ : n ≡ n + 1 → ⊥ = λ x. omega arith in
     rw (ne', ne) (two differ)
 
-link_cleared : (n : ℕ) → member (n + 1) (listed (n + 1) ++ listed n) ≡ true
+link_cleared : (n : ℕ) → is_member (n + 1) (serial_list (n + 1) ++ serial_list n) ≡ true
 link_cleared n =
     let ne' = above_zero (n + 1) (omega arith) in
     let self' = eq-eqb (n + 1) (n + 1) refl in
@@ -85,7 +85,7 @@ both_gone root last n v w h =
     let apart : eqb n (n + 1) ≡ false = ne_eqb n (n + 1) (λ x. omega arith) in
     rw (ne', apart, self', ne, self) refl
 
-pub did_ended : (s : Scheme) (c : Call) (k : Confirmation) (r : List ℕ) (f : Option Fault) {m : Model} → eqb (confirmation_number k) 1 ≡ false → Sound s m → Did s c m (ended m k r f)
+pub did_ended : (s : Scheme) (c : Call) (k : Confirmation) (r : List ℕ) (f : Option Fault) {m : Model} → eqb (confirmation_number k) 1 ≡ false → HasForm s m → Did s c m (ended m k r f)
 did_ended s c k r f e (at_idle b) = ends (at_idle b) refl refl refl refl (none_started _ e) none (λ x. clash false refl x)
 did_ended s c k r f e (at_select b h) = ends (at_idle b) refl refl refl refl (none_started _ e) none (λ x. clash false refl x)
 did_ended s c k r f e (at_secret {root} {last} {n} {v} state h o) =

@@ -4,12 +4,12 @@ use Rattle.frame.specs.declared.types.Service.{Service}
 use Rattle.frame.specs.declared.types.Service.TheVariants.{Sse, Sch}
 use Rattle.frame.specs.declared.faults.CodecFault.{CodecFault}
 use Rattle.frame.specs.declared.faults.FaultCode.{FaultCode}
-use Rattle.frame.specs.Frames.{Said, act_req, act_res, vfy_req, vfy_res, enc, tmn, error, Parts}
+use Rattle.frame.specs.Frames.{Contents, act_req, act_res, vfy_req, vfy_res, enc, tmn, error, FrameParts}
 use Rattle.frame.specs.Reading.{Reading, message, refused as unread, fault, reading, svc_bits, msg_bits}
 use Rattle.suite.specs.declared.types.Role.TheVariants.{Sender}
-use Rattle.suite.specs.Meanings.{Bytes, keyring_of}
+use Rattle.suite.specs.Meanings.{IsBytes, keyring_of}
 use Rattle.suite.specs.Schemes.{Scheme}
-use Rattle.suite.specs.Calls.{wrong_seed, no_room}
+use Rattle.suite.specs.Calls.{is_wrong_seed, is_short_buffer}
 use Rattle.protocol.specs.declared.states.State.{State}
 use Rattle.protocol.specs.declared.states.State.TheVariants as st
 use Rattle.protocol.specs.declared.outcomes.Confirmation.{Confirmation}
@@ -19,9 +19,9 @@ use Rattle.protocol.specs.declared.refusals.Refusal.{Refusal}
 use Rattle.protocol.specs.declared.refusals.Refusal.TheVariants as no
 use Rattle.protocol.specs.declared.faults.Fault.{Fault}
 use Rattle.protocol.specs.declared.faults.MachineFault.{MachineFault}
-use Rattle.protocol.specs.Numbers.{state_mark, cause_code, codec_of}
+use Rattle.protocol.specs.Numbers.{state_mark, cause_code, codec_fault_of}
 use Rattle.protocol.specs.Models.{Model, Ancillary, secret_value}
-use Rattle.protocol.specs.Steps.{Effect, HasEffect, moved, entering_idle, Step, said_by, is_empty, record_length, same_service, sealed_record, heard}
+use Rattle.protocol.specs.Steps.{Effect, HasEffect, ongoing_effect, idle_effect, Step, frame_bytes, is_empty, is_record_length, is_same_service, sealed_record, reading_effect}
 
 -- a call with its bytes; room is the length of the buffer that it may write
 pub data Call : Type 0 where
@@ -34,85 +34,85 @@ pub data Call : Type 0 where
   release : Call
 
 -- a call
-abbrev pub Turn : Type 0
-Turn = Effect Refusal
+abbrev pub CallEffect : Type 0
+CallEffect = Effect Refusal
 
-abbrev pub refused : Model → Refusal → Turn
-refused m refusal = record { model = m; answer = Err refusal; reply = [] }
+abbrev pub refusal_effect : Model → Refusal → CallEffect
+refusal_effect m refusal = record { model = m; answer = Err refusal; reply = [] }
 
-abbrev pub done : Model → Confirmation → List ℕ → Turn
-done m confirmation reply = moved m confirmation 0 reply
+abbrev pub keyless_effect : Model → Confirmation → List ℕ → CallEffect
+keyless_effect m confirmation reply = ongoing_effect m confirmation 0 reply
 
 -- the session ends
-abbrev pub ended : Model → Confirmation → List ℕ → Option Fault → Turn
-ended m confirmation reply f = entering_idle m confirmation reply f
+abbrev pub ended : Model → Confirmation → List ℕ → Option Fault → CallEffect
+ended m confirmation reply f = idle_effect m confirmation reply f
 
 -- Requests. Refusals are tried in the order in which they stand.
 
-abbrev pub in_state : Model → State → Bool
-in_state m state = state_mark m.state == state_mark state
+abbrev pub is_in_state : Model → State → Bool
+is_in_state m state = state_mark m.state == state_mark state
 
-abbrev pub invoke_turn : Scheme → Model → Service → ℕ → List ℕ → ℕ → Turn
-invoke_turn s m service pid seed room =
-    cond (no_room room) (refused m no.ReplyBuffer)
-    (cond (wrong_seed seed) (refused m no.SeedLength)
-    (cond (not (in_state m st.Idle)) (refused m no.WrongState)
-    (cond (not (pid == s.pid)) (refused m no.OtherPid)
-    (done (record m { state = st.Select; service = service; role = Sender; seed = seed }) conf.Nothing
-    (said_by service (act_req pid (s.offer_of (keyring_of m.means) seed)))))))
+abbrev pub invoke_effect : Scheme → Model → Service → ℕ → List ℕ → ℕ → CallEffect
+invoke_effect s m service pid seed room =
+    cond (is_short_buffer room) (refusal_effect m no.ReplyBuffer)
+    (cond (is_wrong_seed seed) (refusal_effect m no.SeedLength)
+    (cond (not (is_in_state m st.Idle)) (refusal_effect m no.WrongState)
+    (cond (not (pid == s.pid)) (refusal_effect m no.OtherPid)
+    (keyless_effect (record m { state = st.Select; service = service; role = Sender; seed = seed }) conf.Nothing
+    (frame_bytes service (act_req pid (s.offer_of (keyring_of m.means) seed)))))))
 
 -- the number rises, and the record has the raised one
-abbrev pub send_turn : Scheme → Model → List ℕ → ℕ → Turn
-send_turn s m plain room =
-    cond (no_room room) (refused m no.ReplyBuffer)
-    (cond (not (in_state m st.ConfirmedSch)) (refused m no.WrongState)
-    (cond (not (record_length (length plain))) (refused m no.DataLength)
-    (cond (nat_le s.final m.number) (refused m no.NumberSpent)
-    (done (record m { number = m.number + 1 }) conf.DataSent (said_by Sch (enc (sealed_record s m (m.number + 1) plain)))))))
+abbrev pub send_effect : Scheme → Model → List ℕ → ℕ → CallEffect
+send_effect s m plain room =
+    cond (is_short_buffer room) (refusal_effect m no.ReplyBuffer)
+    (cond (not (is_in_state m st.ConfirmedSch)) (refusal_effect m no.WrongState)
+    (cond (not (is_record_length (length plain))) (refusal_effect m no.DataLength)
+    (cond (nat_le s.final m.number) (refusal_effect m no.NumberSpent)
+    (keyless_effect (record m { number = m.number + 1 }) conf.DataSent (frame_bytes Sch (enc (sealed_record s m (m.number + 1) plain)))))))
 
-abbrev pub data_turn : Model → ℕ → Turn
-data_turn m room =
-    cond (not (in_state m st.ConfirmedSch)) (refused m no.WrongState)
-    (cond (is_empty m.held) (refused m no.NothingHeld)
-    (cond (nat_lt room (length m.held)) (refused m no.SmallBuffer)
-    (done (record m { held = [] }) conf.Nothing m.held)))
+abbrev pub data_effect : Model → ℕ → CallEffect
+data_effect m room =
+    cond (not (is_in_state m st.ConfirmedSch)) (refusal_effect m no.WrongState)
+    (cond (is_empty m.held) (refusal_effect m no.NothingHeld)
+    (cond (nat_lt room (length m.held)) (refusal_effect m no.SmallBuffer)
+    (keyless_effect (record m { held = [] }) conf.Nothing m.held)))
 
-abbrev pub secret_turn : Model → ℕ → Turn
-secret_turn m room =
-    cond (not (in_state m st.ConfirmedSse)) (refused m no.WrongState)
-    (cond (nat_lt room 16) (refused m no.SmallBuffer)
-    (done m conf.Nothing (secret_value m)))
+abbrev pub secret_effect : Model → ℕ → CallEffect
+secret_effect m room =
+    cond (not (is_in_state m st.ConfirmedSse)) (refusal_effect m no.WrongState)
+    (cond (nat_lt room 16) (refusal_effect m no.SmallBuffer)
+    (keyless_effect m conf.Nothing (secret_value m)))
 
-abbrev pub terminate_turn : Model → ℕ → Turn
-terminate_turn m room =
-    cond (no_room room) (refused m no.ReplyBuffer)
-    (cond (not (in_state m st.ConfirmedSse || in_state m st.ConfirmedSch)) (refused m no.WrongState)
-    (ended m conf.Terminated (said_by m.service (tmn [])) None))
+abbrev pub terminate_effect : Model → ℕ → CallEffect
+terminate_effect m room =
+    cond (is_short_buffer room) (refusal_effect m no.ReplyBuffer)
+    (cond (not (is_in_state m st.ConfirmedSse || is_in_state m st.ConfirmedSch)) (refusal_effect m no.WrongState)
+    (ended m conf.Terminated (frame_bytes m.service (tmn [])) None))
 
-abbrev pub release_turn : Model → Turn
-release_turn m = ended m (cond (in_state m st.Idle) conf.Nothing conf.Terminated) [] None
+abbrev pub release_effect : Model → CallEffect
+release_effect m = ended m (cond (is_in_state m st.Idle) conf.Nothing conf.Terminated) [] None
 
 -- Frames.
 
 -- a record, in Confirmed_SCH
-abbrev pub is_record : State → Said → Bool
-is_record state (act_req pid p) = false
-is_record state (act_res p) = false
-is_record state (vfy_req p) = false
-is_record state (vfy_res p) = false
-is_record state (enc p) = state_mark state == state_mark st.ConfirmedSch
-is_record state (tmn p) = false
-is_record state (error p) = false
+abbrev pub is_record_taken : State → Contents → Bool
+is_record_taken state (act_req pid p) = false
+is_record_taken state (act_res p) = false
+is_record_taken state (vfy_req p) = false
+is_record_taken state (vfy_res p) = false
+is_record_taken state (enc p) = state_mark state == state_mark st.ConfirmedSch
+is_record_taken state (tmn p) = false
+is_record_taken state (error p) = false
 
 -- a record of the session's service, in Confirmed_SCH while data is held
-abbrev pub blocked : Model → Parts → Bool
-blocked m p = is_record m.state p.said && same_service p.service m.service && not (is_empty m.held)
+abbrev pub is_blocked : Model → FrameParts → Bool
+is_blocked m p = is_record_taken m.state p.contents && is_same_service p.service m.service && not (is_empty m.held)
 
 -- what is heard of a frame, a message or a codec fault; or why it is refused
-abbrev pub admitted : Model → Reading → Result (Result Parts CodecFault) Refusal
-admitted m (unread number) = Err no.FrameLength
-admitted m (fault code) = Ok (Err (codec_of code))
-admitted m (message p) = cond (blocked m p) (Err no.DataHeld) (Ok (Ok p))
+abbrev pub admission : Model → Reading → Result (Result FrameParts CodecFault) Refusal
+admission m (unread number) = Err no.FrameLength
+admission m (fault code) = Ok (Err (codec_fault_of code))
+admission m (message p) = cond (is_blocked m p) (Err no.DataHeld) (Ok (Ok p))
 
 -- A fault is answered by ERROR: letter, digit, 00. It is of the session's service; in Idle, of the frame's if that is SCH, else SSE.
 
@@ -122,53 +122,53 @@ error_service service sep state = cond (state_mark state == state_mark st.Idle) 
 abbrev pub error_payload : FaultCode → List ℕ
 error_payload code = code.letter ∷ code.digit ∷ 0 ∷ []
 
-abbrev pub faulted : Model → ℕ → MachineFault → Turn
-faulted m sep f =
+abbrev pub error_effect : Model → ℕ → MachineFault → CallEffect
+error_effect m sep f =
     ended m conf.Error
-    (said_by (error_service m.service sep f.state) (error (error_payload (cause_code f.cause))))
+    (frame_bytes (error_service m.service sep f.state) (error (error_payload (cause_code f.cause))))
     (Some (record { machine = f; message = msg_bits sep }))
 
 -- a step as a call: a fault ends the session as it was before
-abbrev pub settled : Model → ℕ → Step → Result Outcome MachineFault → Turn
-settled m sep step (Ok outcome) = record { model = step.model; answer = Ok outcome; reply = step.reply }
-settled m sep step (Err f) = faulted m sep f
+abbrev pub effect_of_answer : Model → ℕ → Step → Result Outcome MachineFault → CallEffect
+effect_of_answer m sep step (Ok outcome) = record { model = step.model; answer = Ok outcome; reply = step.reply }
+effect_of_answer m sep step (Err f) = error_effect m sep f
 
-abbrev pub settle : Model → ℕ → Step → Turn
-settle m sep step = settled m sep step step.answer
+abbrev pub effect_of_step : Model → ℕ → Step → CallEffect
+effect_of_step m sep step = effect_of_answer m sep step step.answer
 
 abbrev pub first_byte : List ℕ → ℕ
 first_byte [] = 0
 first_byte (b ∷ rest) = b
 
-abbrev pub taken : Scheme → Model → Ancillary → ℕ → Result (Result Parts CodecFault) Refusal → Turn
-taken s m a sep (Ok h) = settle m sep (heard s m a h)
-taken s m a sep (Err refusal) = refused m refusal
+abbrev pub admitted_effect : Scheme → Model → Ancillary → ℕ → Result (Result FrameParts CodecFault) Refusal → CallEffect
+admitted_effect s m a sep (Ok h) = effect_of_step m sep (reading_effect s m a h)
+admitted_effect s m a sep (Err refusal) = refusal_effect m refusal
 
-abbrev pub frame_turn : Scheme → Model → List ℕ → Ancillary → ℕ → Turn
-frame_turn s m bytes a room =
-    cond (no_room room) (refused m no.ReplyBuffer)
-    (cond (wrong_seed a.seed) (refused m no.SeedLength)
-    (taken s m a (first_byte bytes) (admitted m (reading bytes))))
+abbrev pub frame_effect : Scheme → Model → List ℕ → Ancillary → ℕ → CallEffect
+frame_effect s m bytes a room =
+    cond (is_short_buffer room) (refusal_effect m no.ReplyBuffer)
+    (cond (is_wrong_seed a.seed) (refusal_effect m no.SeedLength)
+    (admitted_effect s m a (first_byte bytes) (admission m (reading bytes))))
 
-abbrev pub turn : Scheme → Model → Call → Turn
-turn s m (invoke service pid seed room) = invoke_turn s m service pid seed room
-turn s m (send plain room) = send_turn s m plain room
-turn s m (retrieve_data room) = data_turn m room
-turn s m (retrieve_secret room) = secret_turn m room
-turn s m (terminate room) = terminate_turn m room
-turn s m (frame bytes a room) = frame_turn s m bytes a room
-turn s m release = release_turn m
+abbrev pub call_effect : Scheme → Model → Call → CallEffect
+call_effect s m (invoke service pid seed room) = invoke_effect s m service pid seed room
+call_effect s m (send plain room) = send_effect s m plain room
+call_effect s m (retrieve_data room) = data_effect m room
+call_effect s m (retrieve_secret room) = secret_effect m room
+call_effect s m (terminate room) = terminate_effect m room
+call_effect s m (frame bytes a room) = frame_effect s m bytes a room
+call_effect s m release = release_effect m
 
 -- what a call is given are bytes
-abbrev pub GivenBytes : Call → Type 0
-GivenBytes (invoke service pid seed room) = Bytes seed
-GivenBytes (send plain room) = Bytes plain
-GivenBytes (retrieve_data room) = Unit {0}
-GivenBytes (retrieve_secret room) = Unit {0}
-GivenBytes (terminate room) = Unit {0}
-GivenBytes (frame bytes a room) = Bytes bytes × Bytes a.seed
-GivenBytes release = Unit {0}
+abbrev pub IsGivenBytes : Call → Type 0
+IsGivenBytes (invoke service pid seed room) = IsBytes seed
+IsGivenBytes (send plain room) = IsBytes plain
+IsGivenBytes (retrieve_data room) = Unit {0}
+IsGivenBytes (retrieve_secret room) = Unit {0}
+IsGivenBytes (terminate room) = Unit {0}
+IsGivenBytes (frame bytes a room) = IsBytes bytes × IsBytes a.seed
+IsGivenBytes release = Unit {0}
 
 -- a call made: what each call of an entity promises
-abbrev pub Made : Scheme → Model → Call → Model → Result Outcome Refusal → List ℕ → List ℕ → Type 0
-Made s before c after result old new = HasEffect before (turn s before c) after result old new
+abbrev pub MakesCall : Scheme → Model → Call → Model → Result Outcome Refusal → List ℕ → List ℕ → Type 0
+MakesCall s before c after result old new = HasEffect before (call_effect s before c) after result old new

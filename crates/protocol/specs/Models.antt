@@ -57,7 +57,7 @@ has_link ConfirmedSse = false
 has_link ConfirmedSch = true
 
 -- the keys that an entity works with in its state, by their serials, are live in its suite
-pub record KeysLive (means : Meaning) (state : State) (secret link : ℕ) : Type 0 where
+pub record HasLiveKeys (means : Meaning) (state : State) (secret link : ℕ) : Type 0 where
   pub secret_live : has_secret state ≡ true → is_some (value_in means.live SharedSecret secret) ≡ true
   pub link_live : has_link state ≡ true → is_some (value_in means.live LinkKey link) ≡ true
 
@@ -65,16 +65,16 @@ abbrev pub no_seed : List ℕ
 no_seed = replicate 16 0
 
 -- a new entity over a suite
-abbrev pub fresh : Meaning → Model
-fresh means = record { means = means; state = Idle; service = Sse; role = Sender; seed = no_seed; number = 0; held = []; secret = 0; link = 0 }
+abbrev pub new_model : Meaning → Model
+new_model means = record { means = means; state = Idle; service = Sse; role = Sender; seed = no_seed; number = 0; held = []; secret = 0; link = 0 }
 
 -- the suite without one key; nothing changes for the serial 0, which no key has
 abbrev pub without_key : Meaning → ℕ → Meaning
 without_key means key = cond (key == 0) means (after_destroy means key)
 
 -- Idle is entered: the link key goes, then the shared secret, and seed, number and held data are zeros.
-abbrev pub idle : Model → Model
-idle m = record {
+abbrev pub idle_model : Model → Model
+idle_model m = record {
   means = without_key (without_key m.means m.link) m.secret;
   state = Idle;
   service = m.service;
@@ -87,5 +87,5 @@ idle m = record {
 }
 
 -- the keys that go when Idle is entered
-abbrev pub keys_of : Model → Destroyed
-keys_of m = record { link = m.link; secret = m.secret }
+abbrev pub session_keys : Model → Destroyed
+session_keys m = record { link = m.link; secret = m.secret }

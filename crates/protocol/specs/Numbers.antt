@@ -47,31 +47,31 @@ refusal_number no.NothingHeld = 9
 refusal_number no.SmallBuffer = 10
 
 -- a refusal of reader or writer, under the same number
-abbrev pub refused_frame : FrameRefusal → Refusal
-refused_frame of_frame.ReplyBuffer = no.ReplyBuffer
-refused_frame of_frame.FrameLength = no.FrameLength
+abbrev pub frame_refusal : FrameRefusal → Refusal
+frame_refusal of_frame.ReplyBuffer = no.ReplyBuffer
+frame_refusal of_frame.FrameLength = no.FrameLength
 
 -- A fault is the letter of its layer, its digit in ASCII, and the place of the byte that it speaks of.
 
-abbrev pub coded : ℕ → ℕ → ℕ → FaultCode
-coded letter n place = record { letter = letter; digit = 0x30 + n; place = place }
+abbrev pub code_at : ℕ → ℕ → ℕ → FaultCode
+code_at letter n place = record { letter = letter; digit = 0x30 + n; place = place }
 
 -- the letter S, at the byte after SEP
 abbrev pub suite_code : SuiteFault → FaultCode
-suite_code OtherPid = coded 0x53 1 1
-suite_code BadOffer = coded 0x53 2 1
-suite_code NoKey = coded 0x53 3 1
-suite_code WrongCheck = coded 0x53 4 1
-suite_code BadRecord = coded 0x53 5 1
+suite_code OtherPid = code_at 0x53 1 1
+suite_code BadOffer = code_at 0x53 2 1
+suite_code NoKey = code_at 0x53 3 1
+suite_code WrongCheck = code_at 0x53 4 1
+suite_code BadRecord = code_at 0x53 5 1
 
 -- the letters C of the codec, M of the machine, S of the suite, Q of the sequence of numbers
 abbrev pub cause_code : Cause → FaultCode
 cause_code (Codec f) = fault_code f
-cause_code NotAllowed = coded 0x4D 1 0
-cause_code OtherService = coded 0x4D 2 0
+cause_code NotAllowed = code_at 0x4D 1 0
+cause_code OtherService = code_at 0x4D 2 0
 cause_code (Suite f) = suite_code f
-cause_code WrongNumber = coded 0x51 1 1
+cause_code WrongNumber = code_at 0x51 1 1
 
 -- the codec fault of a code, by its digit
-abbrev pub codec_of : FaultCode → CodecFault
-codec_of code = cond (code.digit == 0x31) RfuBit (cond (code.digit == 0x32) NoService (cond (code.digit == 0x33) NoMessage WrongFields))
+abbrev pub codec_fault_of : FaultCode → CodecFault
+codec_fault_of code = cond (code.digit == 0x31) RfuBit (cond (code.digit == 0x32) NoService (cond (code.digit == 0x33) NoMessage WrongFields))

@@ -8,8 +8,8 @@ abbrev pub no_keys : Destroyed
 no_keys = record { link = 0; secret = 0 }
 
 -- of a step that meets no fault and destroys no key
-abbrev pub quiet : Confirmation → ℕ → ℕ → Outcome
-quiet confirmation length made = record {
+abbrev pub ongoing_outcome : Confirmation → ℕ → ℕ → Outcome
+ongoing_outcome confirmation length made = record {
   confirmation = confirmation;
   length = length;
   made = made;

@@ -1,19 +1,19 @@
 -- What a message does in each state.
 use Rattle.std.specs.Prelude.{◌≡◌, ℕ, ◌+◌, ◌≤◌, Bool, true, false, cond, not, ◌&&◌, ◌||◌, List, [], length, Some, None, Ok, Err, Option, Result, IfOk, IfErr, ◌==◌, nat_lt}
 use Rattle.std.specs.Str.{bytes_eq}
-use Rattle.buffers.specs.Buffers.{over}
+use Rattle.buffers.specs.Buffers.{with_front}
 use Rattle.frame.specs.declared.types.Service.{Service}
 use Rattle.frame.specs.declared.types.Service.TheVariants.{Sse, Sch}
 use Rattle.frame.specs.declared.faults.CodecFault.{CodecFault}
 use Rattle.frame.specs.Numbers.{service_code}
-use Rattle.frame.specs.Frames.{Said, act_req, act_res, vfy_req, vfy_res, enc, tmn, error, Parts, wire}
+use Rattle.frame.specs.Frames.{Contents, act_req, act_res, vfy_req, vfy_res, enc, tmn, error, FrameParts, wire_bytes}
 use Rattle.suite.specs.declared.types.Role.{Role}
 use Rattle.suite.specs.declared.types.Role.TheVariants.{Sender, Recipient}
 use Rattle.suite.specs.declared.types.KeyKind.TheVariants.{SharedSecret, LinkKey}
 use Rattle.suite.specs.Numbers.{role_byte}
 use Rattle.suite.specs.Meanings.{Meaning, keyring_of, value_of}
 use Rattle.suite.specs.Schemes.{Scheme}
-use Rattle.suite.specs.Calls.{adding, spent}
+use Rattle.suite.specs.Calls.{with_key, is_spent}
 use Rattle.protocol.specs.declared.states.State.{State}
 use Rattle.protocol.specs.declared.states.State.TheVariants as st
 use Rattle.protocol.specs.declared.outcomes.Confirmation.{Confirmation}
@@ -25,8 +25,8 @@ use Rattle.protocol.specs.declared.faults.Cause.{Cause}
 use Rattle.protocol.specs.declared.faults.Cause.TheVariants.{Codec, NotAllowed, OtherService, Suite, WrongNumber}
 use Rattle.protocol.specs.declared.faults.Fault.{Fault}
 use Rattle.protocol.specs.declared.faults.MachineFault.{MachineFault}
-use Rattle.protocol.specs.Outcomes.{quiet}
-use Rattle.protocol.specs.Models.{Model, Ancillary, secret_value, link_value, idle, keys_of}
+use Rattle.protocol.specs.Outcomes.{ongoing_outcome}
+use Rattle.protocol.specs.Models.{Model, Ancillary, secret_value, link_value, idle_model, session_keys}
 
 -- What is left of the entity, what is answered or why not, and the bytes that are written: by a call, which may be refused, and by the step of a
 -- message, which may meet a fault.
@@ -36,14 +36,14 @@ pub record Effect (E : Type 0) : Type 0 where
   pub reply : List ℕ
 
 -- no fault, and no key destroyed
-abbrev pub moved : {E : Type 0} → Model → Confirmation → ℕ → List ℕ → Effect E
-moved m confirmation made reply = record { model = m; answer = Ok (quiet confirmation (length reply) made); reply = reply }
+abbrev pub ongoing_effect : {E : Type 0} → Model → Confirmation → ℕ → List ℕ → Effect E
+ongoing_effect m confirmation made reply = record { model = m; answer = Ok (ongoing_outcome confirmation (length reply) made); reply = reply }
 
 -- Idle is entered
-abbrev pub entering_idle : {E : Type 0} → Model → Confirmation → List ℕ → Option Fault → Effect E
-entering_idle m confirmation reply f = record {
-  model = idle m;
-  answer = Ok (record { confirmation = confirmation; length = length reply; made = 0; destroyed = keys_of m; fault = f });
+abbrev pub idle_effect : {E : Type 0} → Model → Confirmation → List ℕ → Option Fault → Effect E
+idle_effect m confirmation reply f = record {
+  model = idle_model m;
+  answer = Ok (record { confirmation = confirmation; length = length reply; made = 0; destroyed = session_keys m; fault = f });
   reply = reply;
 }
 
@@ -52,7 +52,7 @@ entering_idle m confirmation reply f = record {
 pub record HasEffect {E : Type 0} (before : Model) (effect : Effect E) (after : Model) (result : Result Outcome E) (old new : List ℕ) : Type 0 where
   pub model : after ≡ effect.model
   pub answer : result ≡ effect.answer
-  pub buffer : new ≡ over effect.reply old
+  pub buffer : new ≡ with_front effect.reply old
   pub untouched : IfErr result (λ e. (after ≡ before) × (new ≡ old))
   pub within : IfOk result (λ o. o.length ≤ length old)
   pub short : IfOk result (λ o. o.length ≤ 255)
@@ -62,20 +62,20 @@ abbrev pub Step : Type 0
 Step = Effect MachineFault
 
 -- the session ends, without a reply
-abbrev pub ended_by : Model → Confirmation → Step
-ended_by m confirmation = entering_idle m confirmation [] None
+abbrev pub end_effect : Model → Confirmation → Step
+end_effect m confirmation = idle_effect m confirmation [] None
 
 -- a fault, with the state that it is met in
-abbrev pub fails : Model → Cause → Step
-fails m cause = record { model = m; answer = Err (record { cause = cause; state = m.state }); reply = [] }
+abbrev pub fault_effect : Model → Cause → Step
+fault_effect m cause = record { model = m; answer = Err (record { cause = cause; state = m.state }); reply = [] }
 
 -- what follows where the suite finds no fault
-abbrev pub unless : {A : Type 0} → Model → Result A SuiteFault → (A → Step) → Step
-unless m (Ok x) f = f x
-unless m (Err e) f = fails m (Suite e)
+abbrev pub effect_or_fault : {A : Type 0} → Model → Result A SuiteFault → (A → Step) → Step
+effect_or_fault m (Ok x) f = f x
+effect_or_fault m (Err e) f = fault_effect m (Suite e)
 
-abbrev pub said_by : Service → Said → List ℕ
-said_by service said = wire (record { service = service; said = said })
+abbrev pub frame_bytes : Service → Contents → List ℕ
+frame_bytes service contents = wire_bytes (record { service = service; contents = contents })
 
 -- What is asked of the suite.
 
@@ -83,7 +83,7 @@ said_by service said = wire (record { service = service; said = said })
 abbrev pub agreement : Scheme → Meaning → List ℕ → List ℕ → Role → Result (List ℕ) SuiteFault
 agreement s means seed offer role =
     cond (not (s.fit_of (keyring_of means) offer)) (Err BadOffer)
-    (cond (spent means) (Err NoKey)
+    (cond (is_spent means) (Err NoKey)
     (Ok (s.secret_of (keyring_of means) (role_byte role) seed offer)))
 
 -- the check value of the shared secret for a role
@@ -93,7 +93,7 @@ check_value s m role = s.check_of (keyring_of m.means) m.secret (secret_value m)
 -- the value of the link key of a shared secret: S3 for no further key
 abbrev pub derivation : Scheme → Meaning → ℕ → Result (List ℕ) SuiteFault
 derivation s means key =
-    cond (spent means) (Err NoKey)
+    cond (is_spent means) (Err NoKey)
     (Ok (s.link_of (keyring_of means) key (value_of means.live SharedSecret key)))
 
 -- the payload of a record of one's own
@@ -101,74 +101,74 @@ abbrev pub sealed_record : Scheme → Model → ℕ → List ℕ → List ℕ
 sealed_record s m n plain = s.seal_of (keyring_of m.means) m.link (link_value m) (role_byte m.role) n plain
 
 -- the role, number and data of a payload: S5 where it is not good
-abbrev pub good : Option (ℕ × ℕ × List ℕ) → Result (ℕ × ℕ × List ℕ) SuiteFault
-good (Some t) = Ok t
-good None = Err BadRecord
+abbrev pub good_record : Option (ℕ × ℕ × List ℕ) → Result (ℕ × ℕ × List ℕ) SuiteFault
+good_record (Some t) = Ok t
+good_record None = Err BadRecord
 
 abbrev pub opened_record : Scheme → Model → List ℕ → Result (ℕ × ℕ × List ℕ) SuiteFault
-opened_record s m payload = good (s.open_of (keyring_of m.means) m.link (link_value m) payload)
+opened_record s m payload = good_record (s.open_of (keyring_of m.means) m.link (link_value m) payload)
 
 -- Idle. ACT_REQ: S1, then the Recipient agrees with the seed that the call brings, and answers by its offer.
 
 abbrev pub with_secret : Model → List ℕ → Model
-with_secret m value = record m { means = adding m.means SharedSecret value; secret = m.means.newest + 1 }
+with_secret m value = record m { means = with_key m.means SharedSecret value; secret = m.means.newest + 1 }
 
 abbrev pub as_recipient : Model → Service → List ℕ → Model
 as_recipient m service value = record (with_secret m value) { state = st.EstablishedRecipient; service = service; role = Recipient }
 
 -- the Recipient's answer, once it has agreed
-abbrev pub offering : Scheme → Model → List ℕ → Step
-offering s m seed = moved m conf.Nothing m.secret (said_by m.service (act_res (s.offer_of (keyring_of m.means) seed)))
+abbrev pub offer_effect : Scheme → Model → List ℕ → Step
+offer_effect s m seed = ongoing_effect m conf.Nothing m.secret (frame_bytes m.service (act_res (s.offer_of (keyring_of m.means) seed)))
 
 abbrev pub on_act_req : Scheme → Model → Service → ℕ → List ℕ → List ℕ → Step
 on_act_req s m service pid offer seed =
-    cond (not (pid == s.pid)) (fails m (Suite OtherPid))
-    (unless m (agreement s m.means seed offer Recipient) (λ value.
-    offering s (as_recipient m service value) seed))
+    cond (not (pid == s.pid)) (fault_effect m (Suite OtherPid))
+    (effect_or_fault m (agreement s m.means seed offer Recipient) (λ value.
+    offer_effect s (as_recipient m service value) seed))
 
 -- Select. ACT_RES: the Sender agrees with the seed that it kept, and asks for verification by its check value.
 
-abbrev pub asking : Scheme → Model → Step
-asking s m = moved (record m { state = st.EstablishedSender }) conf.Nothing m.secret (said_by m.service (vfy_req (check_value s m Sender)))
+abbrev pub check_effect : Scheme → Model → Step
+check_effect s m = ongoing_effect (record m { state = st.EstablishedSender }) conf.Nothing m.secret (frame_bytes m.service (vfy_req (check_value s m Sender)))
 
 abbrev pub on_act_res : Scheme → Model → List ℕ → Step
 on_act_res s m offer =
-    unless m (agreement s m.means m.seed offer Sender) (λ value.
-    asking s (with_secret m value))
+    effect_or_fault m (agreement s m.means m.seed offer Sender) (λ value.
+    check_effect s (with_secret m value))
 
 -- Established. VFY: the peer's check value is compared, S4; for SCH the link key is derived, S3; the Recipient answers by its own check value.
 
-abbrev pub verified : Scheme → Model → Role → List ℕ → Result (Unit {0}) SuiteFault
-verified s m role payload = cond (bytes_eq payload (check_value s m role)) (Ok tt) (Err WrongCheck)
+abbrev pub verification : Scheme → Model → Role → List ℕ → Result (Unit {0}) SuiteFault
+verification s m role payload = cond (bytes_eq payload (check_value s m role)) (Ok tt) (Err WrongCheck)
 
 abbrev pub with_link : Scheme → Model → List ℕ → Model
 with_link s m value = record m {
-  means = adding m.means LinkKey value;
+  means = with_key m.means LinkKey value;
   state = st.ConfirmedSch;
   number = s.first;
   link = m.means.newest + 1;
 }
 
 -- the entity in the service, and the serial of the key made for it
-abbrev pub linked : Scheme → Model → Result (List ℕ) SuiteFault → Result (Model × ℕ) SuiteFault
-linked s m (Ok value) = Ok (with_link s m value, m.means.newest + 1)
-linked s m (Err e) = Err e
+abbrev pub link_start : Scheme → Model → Result (List ℕ) SuiteFault → Result (Model × ℕ) SuiteFault
+link_start s m (Ok value) = Ok (with_link s m value, m.means.newest + 1)
+link_start s m (Err e) = Err e
 
-abbrev pub confirmed : Scheme → Model → Service → Result (Model × ℕ) SuiteFault
-confirmed s m Sse = Ok (record m { state = st.ConfirmedSse }, 0)
-confirmed s m Sch = linked s m (derivation s m.means m.secret)
+abbrev pub service_start : Scheme → Model → Service → Result (Model × ℕ) SuiteFault
+service_start s m Sse = Ok (record m { state = st.ConfirmedSse }, 0)
+service_start s m Sch = link_start s m (derivation s m.means m.secret)
 
 abbrev pub on_vfy_req : Scheme → Model → List ℕ → Step
 on_vfy_req s m payload =
-    unless m (verified s m Sender payload) (λ _.
-    unless m (confirmed s m m.service) (λ c.
-    moved c.0 conf.Established c.1 (said_by m.service (vfy_res (check_value s m Recipient)))))
+    effect_or_fault m (verification s m Sender payload) (λ _.
+    effect_or_fault m (service_start s m m.service) (λ c.
+    ongoing_effect c.0 conf.Established c.1 (frame_bytes m.service (vfy_res (check_value s m Recipient)))))
 
 abbrev pub on_vfy_res : Scheme → Model → List ℕ → Step
 on_vfy_res s m payload =
-    unless m (verified s m Recipient payload) (λ _.
-    unless m (confirmed s m m.service) (λ c.
-    moved c.0 conf.Established c.1 []))
+    effect_or_fault m (verification s m Recipient payload) (λ _.
+    effect_or_fault m (service_start s m m.service) (λ c.
+    ongoing_effect c.0 conf.Established c.1 []))
 
 -- Confirmed_SCH. ENC.
 
@@ -176,50 +176,50 @@ abbrev pub is_empty : List ℕ → Bool
 is_empty xs = length xs == 0
 
 -- how many bytes the data of a record has
-abbrev pub record_length : ℕ → Bool
-record_length n = not (n == 0) && not (nat_lt 200 n)
+abbrev pub is_record_length : ℕ → Bool
+is_record_length n = not (n == 0) && not (nat_lt 200 n)
 
 -- The sequence check of role, number and data length: whether the record is a new one. The same number again is dropped, whatever the role; then
 -- comes S5 for one's own role, and Q1 for a number that is not the next or above the last.
-abbrev pub sequenced : Scheme → Model → ℕ × ℕ × ℕ → Result Bool Cause
-sequenced s m t =
-    cond (not (record_length t.2)) (Err (Suite BadRecord))
+abbrev pub sequence_check : Scheme → Model → ℕ × ℕ × ℕ → Result Bool Cause
+sequence_check s m t =
+    cond (not (is_record_length t.2)) (Err (Suite BadRecord))
     (cond (t.1 == m.number) (Ok false)
     (cond (t.0 == role_byte m.role) (Err (Suite BadRecord))
     (cond (not (t.1 == m.number + 1) || nat_lt s.final t.1) (Err WrongNumber)
     (Ok true))))
 
-abbrev pub entered : Model → List ℕ → Result Bool Cause → Step
-entered m plain (Err cause) = fails m cause
-entered m plain (Ok false) = moved m conf.Dropped 0 []
-entered m plain (Ok true) = moved (record m { number = m.number + 1; held = plain }) conf.DataAvailable 0 []
+abbrev pub record_effect : Model → List ℕ → Result Bool Cause → Step
+record_effect m plain (Err cause) = fault_effect m cause
+record_effect m plain (Ok false) = ongoing_effect m conf.Dropped 0 []
+record_effect m plain (Ok true) = ongoing_effect (record m { number = m.number + 1; held = plain }) conf.DataAvailable 0 []
 
 abbrev pub on_enc : Scheme → Model → List ℕ → Step
 on_enc s m payload =
-    unless m (opened_record s m payload) (λ t.
-    entered m t.2 (sequenced s m (t.0, t.1, length t.2)))
+    effect_or_fault m (opened_record s m payload) (λ t.
+    record_effect m t.2 (sequence_check s m (t.0, t.1, length t.2)))
 
 -- The state and the message together decide. M1 where nothing else is said; outside Idle another service than the session's is M2. An ERROR is
 -- taken in every state and of every service.
 
-abbrev pub same_service : Service → Service → Bool
-same_service a b = service_code a == service_code b
+abbrev pub is_same_service : Service → Service → Bool
+is_same_service a b = service_code a == service_code b
 
-abbrev pub in_session : Model → Service → Step → Step
-in_session m service step = cond (not (same_service service m.service)) (fails m OtherService) step
+abbrev pub session_effect : Model → Service → Step → Step
+session_effect m service step = cond (not (is_same_service service m.service)) (fault_effect m OtherService) step
 
-abbrev pub by_state : Scheme → Model → Ancillary → Service → State → Said → Step
-by_state s m a service state (error p) = ended_by m conf.Error
-by_state s m a service st.Idle (act_req pid offer) = on_act_req s m service pid offer a.seed
-by_state s m a service st.Select (act_res offer) = in_session m service (on_act_res s m offer)
-by_state s m a service st.EstablishedSender (vfy_res check) = in_session m service (on_vfy_res s m check)
-by_state s m a service st.EstablishedRecipient (vfy_req check) = in_session m service (on_vfy_req s m check)
-by_state s m a service st.ConfirmedSse (tmn p) = in_session m service (ended_by m conf.Terminated)
-by_state s m a service st.ConfirmedSch (tmn p) = in_session m service (ended_by m conf.Terminated)
-by_state s m a service st.ConfirmedSch (enc payload) = in_session m service (on_enc s m payload)
-by_state s m a service state said = fails m NotAllowed
+abbrev pub message_effect : Scheme → Model → Ancillary → Service → State → Contents → Step
+message_effect s m a service state (error p) = end_effect m conf.Error
+message_effect s m a service st.Idle (act_req pid offer) = on_act_req s m service pid offer a.seed
+message_effect s m a service st.Select (act_res offer) = session_effect m service (on_act_res s m offer)
+message_effect s m a service st.EstablishedSender (vfy_res check) = session_effect m service (on_vfy_res s m check)
+message_effect s m a service st.EstablishedRecipient (vfy_req check) = session_effect m service (on_vfy_req s m check)
+message_effect s m a service st.ConfirmedSse (tmn p) = session_effect m service (end_effect m conf.Terminated)
+message_effect s m a service st.ConfirmedSch (tmn p) = session_effect m service (end_effect m conf.Terminated)
+message_effect s m a service st.ConfirmedSch (enc payload) = session_effect m service (on_enc s m payload)
+message_effect s m a service state contents = fault_effect m NotAllowed
 
 -- a frame that was read: a message or a codec fault
-abbrev pub heard : Scheme → Model → Ancillary → Result Parts CodecFault → Step
-heard s m a (Ok p) = by_state s m a p.service m.state p.said
-heard s m a (Err f) = fails m (Codec f)
+abbrev pub reading_effect : Scheme → Model → Ancillary → Result FrameParts CodecFault → Step
+reading_effect s m a (Ok p) = message_effect s m a p.service m.state p.contents
+reading_effect s m a (Err f) = fault_effect m (Codec f)

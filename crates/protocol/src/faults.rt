@@ -1,7 +1,7 @@
 ghost use Rattle.std.specs.Prelude.{◌≡◌, Some};
 ghost use Rattle.protocol.specs.declared.faults.Cause.TheVariants.{Codec as CodecCause, Suite as SuiteCause};
 ghost use Rattle.protocol.specs.Numbers.{suite_code, cause_code};
-ghost use Rattle.protocol.specs.Wraps.{met, at};
+ghost use Rattle.protocol.specs.Wraps.{result_in_state, result_at_message};
 ghost use Rattle.protocol.specs.Words.{suite_words, cause_words};
 
 use super::states::State;
@@ -166,19 +166,19 @@ impl Error for Fault {}
 
 /// A fault on its way up, with the state that it was met in.
 #[derive(Drop)]
-pub struct Met<E> {
+pub struct FaultInState<E> {
     pub fault: E,
     pub state: State,
 }
 
-impl<E> From<Met<E>> for MachineFault
+impl<E> From<FaultInState<E>> for MachineFault
 where
     Cause: From<E>,
 {
     ghost from_gives = { λ x r. ⟦<Cause as From<E>>⟧.from_gives x.fault r.cause × (r.state ≡ x.state) };
 
-    fn from(met: Met<E>) -> Self {
-        let Met { fault, state } = met;
+    fn from(met: FaultInState<E>) -> Self {
+        let FaultInState { fault, state } = met;
         Self {
             cause: fault.into(),
             state,
@@ -188,15 +188,15 @@ where
 
 /// A fault on its way up, with the code of the message at which it was met.
 #[derive(Drop)]
-pub struct At<E> {
+pub struct FaultAtMessage<E> {
     pub fault: E,
     pub message: u8,
 }
 
-impl From<At<MachineFault>> for Fault {
+impl From<FaultAtMessage<MachineFault>> for Fault {
     ghost from_gives = { λ x r. r ≡ record { machine = x.fault; message = x.message } };
 
-    fn from(at: At<MachineFault>) -> Self {
+    fn from(at: FaultAtMessage<MachineFault>) -> Self {
         Self {
             machine: at.fault,
             message: at.message,
@@ -205,15 +205,15 @@ impl From<At<MachineFault>> for Fault {
 }
 
 /// A result whose error tells the state.
-pub fn met_in<T, E>(state: State, outcome: Result<T, E>) -> Result<T, Met<E>>
-    ensures { result ≡ met state outcome }
+pub fn in_state<T, E>(state: State, outcome: Result<T, E>) -> Result<T, FaultInState<E>>
+    ensures { result ≡ result_in_state state outcome }
 {
-    outcome.map_err(|fault| Met { fault, state })
+    outcome.map_err(|fault| FaultInState { fault, state })
 }
 
 /// A result whose error tells the message.
-pub fn at_message<T, E>(message: u8, outcome: Result<T, E>) -> Result<T, At<E>>
-    ensures { result ≡ at message outcome }
+pub fn at_message<T, E>(message: u8, outcome: Result<T, E>) -> Result<T, FaultAtMessage<E>>
+    ensures { result ≡ result_at_message message outcome }
 {
-    outcome.map_err(|fault| At { fault, message })
+    outcome.map_err(|fault| FaultAtMessage { fault, message })
 }

@@ -7,7 +7,9 @@ mod outcomes;
 mod refusals;
 mod states;
 
-pub use faults::{At, Cause, Fault, MachineFault, Met, SuiteFault, at_message, met_in};
+pub use faults::{
+    Cause, Fault, FaultAtMessage, FaultInState, MachineFault, SuiteFault, at_message, in_state,
+};
 pub use outcomes::{Confirmation, Destroyed, Outcome};
 pub use refusals::Refusal;
 pub use states::State;

@@ -1,6 +1,6 @@
 ghost use Rattle.std.specs.Prelude.{◌≡◌, Some};
 ghost use Rattle.protocol.specs.Numbers.{confirmation_number};
-ghost use Rattle.protocol.specs.Outcomes.{no_keys, quiet};
+ghost use Rattle.protocol.specs.Outcomes.{no_keys, ongoing_outcome};
 ghost use Rattle.protocol.specs.Words.{confirmation_words};
 
 use super::faults::Fault;
@@ -75,8 +75,8 @@ pub struct Outcome {
 
 impl Outcome {
     /// The outcome of a step that meets no fault and destroys no key.
-    pub fn quiet(confirmation: Confirmation, length: usize, made: u32) -> Outcome
-        ensures { result ≡ quiet confirmation length made }
+    pub fn ongoing(confirmation: Confirmation, length: usize, made: u32) -> Outcome
+        ensures { result ≡ ongoing_outcome confirmation length made }
     {
         Outcome {
             confirmation,

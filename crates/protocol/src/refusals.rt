@@ -1,5 +1,5 @@
 ghost use Rattle.std.specs.Prelude.{◌≡◌, Some};
-ghost use Rattle.protocol.specs.Numbers.{refusal_number, refused_frame};
+ghost use Rattle.protocol.specs.Numbers.{refusal_number, frame_refusal};
 ghost use Rattle.protocol.specs.Words.{refusal_words};
 
 use std::error::Error;
@@ -62,7 +62,7 @@ impl Error for Refusal {}
 
 // The numbers of the two are those of one table.
 impl From<frame::Refusal> for Refusal {
-    ghost from_gives = { λ x r. r ≡ refused_frame x };
+    ghost from_gives = { λ x r. r ≡ frame_refusal x };
 
     fn from(refusal: frame::Refusal) -> Self {
         match refusal {

@@ -1,2 +1,2 @@
-pub mod AllowanceLaws
+pub mod AllowanceProofs
 pub mod Allowances

@@ -1,9 +1,9 @@
 ghost use Rattle.std.specs.Prelude.{◌≡◌, ◌+◌, min, replicate, is_some, Err};
 ghost use Rattle.suite.specs.declared.types.KeyKind.TheVariants.{SharedSecret};
-ghost use Rattle.suite.specs.Calls.{agreed, derived, after_making, after_destroy};
+ghost use Rattle.suite.specs.Calls.{agree_result, derive_result, after_making, after_destroy};
 ghost use Rattle.suite.specs.Meanings.{value_in, with_last};
-ghost use Rattle.quota.specs.Allowances.{limited, quota_meaning, keys_made};
-ghost use Rattle.quota.specs.AllowanceLaws.{limited-formed};
+ghost use Rattle.quota.specs.Allowances.{limited_meaning, quota_meaning, keys_made};
+ghost use Rattle.quota.specs.AllowanceProofs.{limited_meaning-formed};
 
 use suite::{Denial, HasMeaning, Layer, Role, Suite};
 
@@ -35,7 +35,7 @@ impl<S: Suite> Quota<S> {
     // Why a used-up allowance makes no shared secret of these. The role is a byte, as in the call, and a link key is denied for other
     // reasons.
     fn agree_denial(&self, seed: &[u8], offer: &[u8], role: u8) -> Denial
-        ensures { Err result ≡ agreed S.scheme (limited (S.meaning self.now.below) 0) seed.now offer.now role }
+        ensures { Err result ≡ agree_result S.scheme (limited_meaning (S.meaning self.now.below) 0) seed.now offer.now role }
     {
         if seed.len() != 16 || Role::try_from(role).is_err() {
             Denial::Unfit
@@ -48,7 +48,7 @@ impl<S: Suite> Quota<S> {
 
     // Why a used-up allowance makes no link key of that shared secret.
     fn derive_denial(&self, key: u32) -> Denial
-        ensures { Err result ≡ derived S.scheme (limited (S.meaning self.now.below) 0) key }
+        ensures { Err result ≡ derive_result S.scheme (limited_meaning (S.meaning self.now.below) 0) key }
     {
         let mut scratch = [0; 255];
         if self.is_secret(key, &mut scratch) {
@@ -82,7 +82,7 @@ impl<S: Suite> Layer for Quota<S> {
 
     ghost destroyed = { λ x key result y. (S.meaning y.below ≡ after_destroy (S.meaning x.below) key) × (y.left ≡ x.left) };
 
-    ghost formed = { λ x. limited-formed (S.meaning x.below) x.left (S.formed x.below) };
+    ghost formed = { λ x. limited_meaning-formed (S.meaning x.below) x.left (S.formed x.below) };
 
     fn below(&self) -> &S {
         &self.below

@@ -4,76 +4,76 @@ use Rattle.protocol.specs.Calls.{Call, invoke, send, retrieve_data, retrieve_sec
 use Rattle.protocol.specs.declared.outcomes.Outcome.{Outcome}
 use Rattle.protocol.specs.declared.refusals.Refusal.{Refusal}
 use Rattle.histories.specs.Histories as h
-use Rattle.histories.specs.Records.{Charge, was_sent, was_handed, way_mark, link_in, charged_in}
+use Rattle.histories.specs.Records.{was_sent, was_handed, direction_number, running_session, records_in}
 use Rattle.histories.specs.Records as r
 use Rattle.replay.specs.declared.entry.Written.{Written}
-use Rattle.replay.specs.declared.entry.Way.{Way}
-use Rattle.replay.specs.declared.entry.Way.TheVariants.{Sent, Handed}
-use Rattle.replay.specs.declared.entry.Record.{Record}
+use Rattle.replay.specs.declared.entry.Direction.{Direction}
+use Rattle.replay.specs.declared.entry.Direction.TheVariants.{Sent, Handed}
+use Rattle.replay.specs.declared.entry.SessionRecord.{SessionRecord}
 use Rattle.replay.specs.declared.entry.Entry.{Entry}
 
 -- the bytes that were written
-abbrev pub bytes_of : Written → List ℕ
-bytes_of w = take w.length w.bytes
+abbrev pub written_bytes : Written → List ℕ
+written_bytes w = take w.length w.bytes
 
 -- what lies in the front of a buffer, by the length that a call answered
-abbrev pub wrote : Result Outcome Refusal → List ℕ → List ℕ
-wrote (Ok o) buffer = take o.length buffer
-wrote (Err r) buffer = []
+abbrev pub bytes_written : Result Outcome Refusal → List ℕ → List ℕ
+bytes_written (Ok o) buffer = take o.length buffer
+bytes_written (Err r) buffer = []
 
 -- Entries, with their calls.
 
 -- what a call and its entry tell: an entry of a history
-abbrev pub told : Call → Entry → h.Entry
-told c e = record { call = c; answer = e.answer; written = bytes_of e.written }
+abbrev pub history_entry : Call → Entry → h.Entry
+history_entry c e = record { call = c; answer = e.answer; written = written_bytes e.written }
 
 -- what each call tells with the entry at its place
-abbrev pub told_each : List Call → List Entry → List h.Entry
-told_each [] es = []
-told_each (c ∷ cs) [] = []
-told_each (c ∷ cs) (e ∷ es) = told c e ∷ told_each cs es
+abbrev pub history_entries : List Call → List Entry → List h.Entry
+history_entries [] es = []
+history_entries (c ∷ cs) [] = []
+history_entries (c ∷ cs) (e ∷ es) = history_entry c e ∷ history_entries cs es
 
 -- the history that a log and its entries tell, the newest call first
-abbrev pub told_history : List Call → List Entry → h.History
-told_history calls entries = reverse (told_each calls entries)
+abbrev pub transcript_history : List Call → List Entry → h.History
+transcript_history calls entries = reverse (history_entries calls entries)
 
 -- Records.
 
 -- whether a record was sent or handed
-abbrev pub way_of : Way → r.Way
-way_of Sent = was_sent
-way_of Handed = was_handed
+abbrev pub direction_of : Direction → r.Direction
+direction_of Sent = was_sent
+direction_of Handed = was_handed
 
 -- the record of an entry, if it has one
-abbrev pub charge_of : Option Record → List Charge
-charge_of None = []
-charge_of (Some x) = record { session = x.session; way = way_of x.way; plain = bytes_of x.plain } ∷ []
+abbrev pub records_of : Option SessionRecord → List r.SessionRecord
+records_of None = []
+records_of (Some x) = record { session = x.session; direction = direction_of x.direction; plain = written_bytes x.plain } ∷ []
 
 -- the records that the entries tell, the oldest first
-abbrev pub told_records : List Entry → List Charge
-told_records [] = []
-told_records (e ∷ es) = charge_of e.record ++ told_records es
+abbrev pub transcript_records : List Entry → List r.SessionRecord
+transcript_records [] = []
+transcript_records (e ∷ es) = records_of e.record ++ transcript_records es
 
 -- There are as many entries as calls, and each entry tells the record of its own call, in the session that ran before it. Before is the
 -- history so far.
-abbrev pub InPlace : h.History → List Call → List Entry → Type 0
-InPlace before [] [] = Unit {0}
-InPlace before [] (e ∷ es) = ⊥
-InPlace before (c ∷ cs) [] = ⊥
-InPlace before (c ∷ cs) (e ∷ es) = (charge_of e.record ≡ charged_in (link_in before) (told c e)) × InPlace (told c e ∷ before) cs es
+abbrev pub HasRecordsInPlace : h.History → List Call → List Entry → Type 0
+HasRecordsInPlace before [] [] = Unit {0}
+HasRecordsInPlace before [] (e ∷ es) = ⊥
+HasRecordsInPlace before (c ∷ cs) [] = ⊥
+HasRecordsInPlace before (c ∷ cs) (e ∷ es) = (records_of e.record ≡ records_in (running_session before) (history_entry c e)) × HasRecordsInPlace (history_entry c e ∷ before) cs es
 
 -- it was handed, and not sent
-abbrev pub is_handed : r.Way → Bool
-is_handed way = way_mark way == way_mark was_handed
+abbrev pub is_handed : r.Direction → Bool
+is_handed direction = direction_number direction == direction_number was_handed
 
 -- how many of the records that the entries tell were handed
 abbrev pub handed_count : List Entry → ℕ
-handed_count entries = length (filter (λ c. is_handed c.way) (told_records entries))
+handed_count entries = length (filter (λ c. is_handed c.direction) (transcript_records entries))
 
 -- whether it was a record that was handed
-abbrev pub hands_over : Option Record → Bool
-hands_over None = false
-hands_over (Some x) = is_handed (way_of x.way)
+abbrev pub is_hand_over : Option SessionRecord → Bool
+is_hand_over None = false
+is_hand_over (Some x) = is_handed (direction_of x.direction)
 
 -- a send that is answered had data that a record holds
 abbrev pub FitsSend : Call → Result Outcome Refusal → Type 0

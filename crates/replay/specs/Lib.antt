@@ -1,3 +1,3 @@
-pub mod Called
+pub mod LogViews
 pub mod Entries
 pub mod Replays

@@ -1,7 +1,7 @@
 ghost use Rattle.std.specs.Prelude.{◌≡◌, length, IfOk, OnErr};
 ghost use Rattle.entity.specs.Views.{view};
-ghost use Rattle.replay.specs.Called.{calls_of};
-ghost use Rattle.replay.specs.Replays.{Promised, Replayed, OrderTold};
+ghost use Rattle.replay.specs.LogViews.{logged_calls};
+ghost use Rattle.replay.specs.Replays.{AllPromises, IsReplay, RecordsFollow};
 
 use super::entry::{Entry, Written};
 use super::logged::Logged;
@@ -40,11 +40,11 @@ pub fn replay<S: Suite, T: Suite>(
     log: &[Logged<'_>],
     other_log: &[Logged<'_>],
 ) -> Result<Transcripts, AllocError>
-    ensures promised { Promised }
-    ensures one { IfOk result (λ t. Replayed S.scheme (view S.meaning one.old) (calls_of log.now) (view S.meaning one.new) t.one.items) }
-    ensures other { IfOk result (λ t. Replayed T.scheme (view T.meaning other.old) (calls_of other_log.now) (view T.meaning other.new) t.other.items) }
-    ensures order { IfOk result (λ t. OrderTold S.scheme T.scheme (view S.meaning one.old) (view T.meaning other.old) (calls_of log.now) (calls_of other_log.now) t.one.items t.other.items) }
-    ensures order_back { IfOk result (λ t. OrderTold T.scheme S.scheme (view T.meaning other.old) (view S.meaning one.old) (calls_of other_log.now) (calls_of log.now) t.other.items t.one.items) }
+    ensures promised { AllPromises }
+    ensures one { IfOk result (λ t. IsReplay S.scheme (view S.meaning one.old) (logged_calls log.now) (view S.meaning one.new) t.one.items) }
+    ensures other { IfOk result (λ t. IsReplay T.scheme (view T.meaning other.old) (logged_calls other_log.now) (view T.meaning other.new) t.other.items) }
+    ensures order { IfOk result (λ t. RecordsFollow S.scheme T.scheme (view S.meaning one.old) (view T.meaning other.old) (logged_calls log.now) (logged_calls other_log.now) t.one.items t.other.items) }
+    ensures order_back { IfOk result (λ t. RecordsFollow T.scheme S.scheme (view T.meaning other.old) (view S.meaning one.old) (logged_calls other_log.now) (logged_calls log.now) t.other.items t.one.items) }
     ensures unchanged { OnErr result ((one.new ≡ one.old) × (other.new ≡ other.old)) }
 {
     let mut first = places(alloc, log)?;

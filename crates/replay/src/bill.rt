@@ -1,15 +1,15 @@
 ghost use Rattle.std.specs.Prelude.{◌≡◌};
-ghost use Rattle.replay.specs.Entries.{handed_count, hands_over};
+ghost use Rattle.replay.specs.Entries.{handed_count, is_hand_over};
 
-use super::entry::{Entry, Record, Way};
+use super::entry::{Direction, Entry, SessionRecord};
 
 fn hands_over(entry: &Entry) -> bool
-    ensures { result ≡ hands_over entry.now.record }
+    ensures { result ≡ is_hand_over entry.now.record }
 {
     matches!(
         entry.record,
-        Some(Record {
-            way: Way::Handed,
+        Some(SessionRecord {
+            direction: Direction::Handed,
             ..
         })
     )

@@ -14,16 +14,16 @@ pub struct Written {
 
 /// What became of the data of a record.
 #[derive(Clone, Copy, Debug, PartialEq, Eq)]
-pub enum Way {
+pub enum Direction {
     Sent,
     Handed,
 }
 
 /// A record that the user of an end sent, or was handed, in the session of that link key.
 #[derive(Clone, Copy)]
-pub struct Record {
+pub struct SessionRecord {
     pub session: u32,
-    pub way: Way,
+    pub direction: Direction,
     pub plain: Written,
 }
 
@@ -32,5 +32,5 @@ pub struct Record {
 pub struct Entry {
     pub answer: Result<Outcome, Refusal>,
     pub written: Written,
-    pub record: Option<Record>,
+    pub record: Option<SessionRecord>,
 }

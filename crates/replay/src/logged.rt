@@ -1,6 +1,6 @@
-ghost use Rattle.suite.specs.Meanings.{Bytes};
-ghost use Rattle.protocol.specs.Calls.{GivenBytes};
-ghost use Rattle.replay.specs.Called.{called};
+ghost use Rattle.suite.specs.Meanings.{IsBytes};
+ghost use Rattle.protocol.specs.Calls.{IsGivenBytes};
+ghost use Rattle.replay.specs.LogViews.{logged_call};
 
 use entity::Call;
 
@@ -14,7 +14,7 @@ pub struct Logged<'a> {
 impl Logged<'_> {
     // Does nothing. Its contract says, for a proof, that what a call was given are bytes.
     pub(crate) fn given(&self)
-        ensures { GivenBytes (called self.now) }
+        ensures { IsGivenBytes (logged_call self.now) }
     {
         match self.call {
             Call::Invoke { seed, .. } => are_bytes(seed),
@@ -30,5 +30,5 @@ impl Logged<'_> {
 
 // Nor does this: each element of a slice of bytes is one.
 fn are_bytes(slice: &[u8])
-    ensures { Bytes slice.now }
+    ensures { IsBytes slice.now }
 {}

@@ -1,9 +1,9 @@
 ghost use Rattle.std.specs.Prelude.{◌≡◌, ◌≤◌, length, replicate, IfOk};
-ghost use Rattle.buffers.specs.Buffers.{over};
-ghost use Rattle.protocol.specs.Calls.{turn};
+ghost use Rattle.buffers.specs.Buffers.{with_front};
+ghost use Rattle.protocol.specs.Calls.{call_effect};
 ghost use Rattle.entity.specs.Views.{view};
-ghost use Rattle.replay.specs.Called.{called};
-ghost use Rattle.replay.specs.Entries.{bytes_of, wrote};
+ghost use Rattle.replay.specs.LogViews.{logged_call};
+ghost use Rattle.replay.specs.Entries.{written_bytes, bytes_written};
 
 use super::entry::Written;
 use super::logged::Logged;
@@ -15,7 +15,7 @@ use suite::Suite;
 fn written(answer: Result<Outcome, Refusal>, buffer: &[u8]) -> Written
     requires within { IfOk answer (λ o. o.length ≤ length buffer.now) }
     requires short { IfOk answer (λ o. o.length ≤ 255) }
-    ensures { bytes_of result ≡ wrote answer buffer.now }
+    ensures { written_bytes result ≡ bytes_written answer buffer.now }
 {
     match answer {
         Ok(outcome) => Written::new(&buffer[..outcome.length]),
@@ -30,10 +30,10 @@ pub(crate) fn make<S: Suite>(
     buffer: &mut [u8],
 ) -> (Result<Outcome, Refusal>, Written)
     requires { logged.now.room ≤ length buffer.old }
-    ensures model { view S.meaning entity.new ≡ (turn S.scheme (view S.meaning entity.old) (called logged.now)).model }
-    ensures answer { result.0 ≡ (turn S.scheme (view S.meaning entity.old) (called logged.now)).answer }
-    ensures written { bytes_of result.1 ≡ (turn S.scheme (view S.meaning entity.old) (called logged.now)).reply }
-    ensures cleared { buffer.new ≡ over (replicate logged.now.room 0) buffer.old }
+    ensures model { view S.meaning entity.new ≡ (call_effect S.scheme (view S.meaning entity.old) (logged_call logged.now)).model }
+    ensures answer { result.0 ≡ (call_effect S.scheme (view S.meaning entity.old) (logged_call logged.now)).answer }
+    ensures written { written_bytes result.1 ≡ (call_effect S.scheme (view S.meaning entity.old) (logged_call logged.now)).reply }
+    ensures cleared { buffer.new ≡ with_front (replicate logged.now.room 0) buffer.old }
 {
     let slip = Slip::take_out();
     let lent = &mut buffer[..logged.room];

@@ -1,9 +1,9 @@
 ghost use Rattle.std.specs.Prelude.{◌≡◌, ◌≤◌, length, Ok, IfOk};
-ghost use Rattle.histories.specs.Records.{charged_in, next_session};
-ghost use Rattle.replay.specs.Called.{called};
-ghost use Rattle.replay.specs.Entries.{bytes_of, charge_of, told, FitsSend};
+ghost use Rattle.histories.specs.Records.{records_in, next_session};
+ghost use Rattle.replay.specs.LogViews.{logged_call};
+ghost use Rattle.replay.specs.Entries.{written_bytes, records_of, history_entry, FitsSend};
 
-use super::entry::{Entry, Record, Way, Written};
+use super::entry::{Direction, Entry, SessionRecord, Written};
 use super::logged::Logged;
 use entity::Call;
 use protocol::{Confirmation, Outcome, Refusal};
@@ -30,21 +30,21 @@ fn record(
     logged: &Logged<'_>,
     answer: Result<Outcome, Refusal>,
     written: Written,
-) -> Option<Record>
-    requires { FitsSend (called logged.now) answer }
-    ensures { charge_of result ≡ charged_in session (record { call = called logged.now; answer = answer; written = bytes_of written }) }
+) -> Option<SessionRecord>
+    requires { FitsSend (logged_call logged.now) answer }
+    ensures { records_of result ≡ records_in session (record { call = logged_call logged.now; answer = answer; written = written_bytes written }) }
 {
     let outcome = answer.ok()?;
-    let (way, plain) = match logged.call {
+    let (direction, plain) = match logged.call {
         Call::Send { plain } if outcome.confirmation == Confirmation::DataSent => {
-            (Way::Sent, Written::new(plain))
+            (Direction::Sent, Written::new(plain))
         }
-        Call::RetrieveData => (Way::Handed, written),
+        Call::RetrieveData => (Direction::Handed, written),
         _ => return None,
     };
-    Some(Record {
+    Some(SessionRecord {
         session,
-        way,
+        direction,
         plain,
     })
 }
@@ -56,9 +56,9 @@ pub(crate) fn note(
     answer: Result<Outcome, Refusal>,
     written: Written,
 ) -> Entry
-    requires { FitsSend (called logged.now) answer }
-    ensures told { told (called logged.now) result ≡ record { call = called logged.now; answer = answer; written = bytes_of written } }
-    ensures record { charge_of result.record ≡ charged_in session (told (called logged.now) result) }
+    requires { FitsSend (logged_call logged.now) answer }
+    ensures history_entry { history_entry (logged_call logged.now) result ≡ record { call = logged_call logged.now; answer = answer; written = written_bytes written } }
+    ensures record { records_of result.record ≡ records_in session (history_entry (logged_call logged.now) result) }
 {
     Entry {
         answer,

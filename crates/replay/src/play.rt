@@ -1,7 +1,7 @@
 ghost use Rattle.std.specs.Prelude.{◌≡◌, ℕ, ◌<◌, ◌≤◌, length, All, slice_index};
 ghost use Rattle.entity.specs.Views.{view};
-ghost use Rattle.replay.specs.Called.{calls_of};
-ghost use Rattle.replay.specs.Replays.{Replayed};
+ghost use Rattle.replay.specs.LogViews.{logged_calls};
+ghost use Rattle.replay.specs.Replays.{IsReplay};
 
 use super::entry::Entry;
 use super::logged::Logged;
@@ -30,7 +30,7 @@ pub(crate) fn play<S: Suite>(
 )
     requires rooms { All (λ x. x.room ≤ length buffer.old) log.now }
     requires places { length entries.old ≡ length log.now }
-    ensures { Replayed S.scheme (view S.meaning entity.old) (calls_of log.now) (view S.meaning entity.new) entries.new }
+    ensures { IsReplay S.scheme (view S.meaning entity.old) (logged_calls log.now) (view S.meaning entity.new) entries.new }
 {
     let mut session = 0;
     for i in 0..log.len() {

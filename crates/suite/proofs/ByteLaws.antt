@@ -2,15 +2,15 @@
 use Rattle.std.proofs.Common.{◌≡◌, ℕ, ◌%◌, ◌<◌, true, eqb, List, length, get_or, ⊎_elim, arith}
 use Rattle.std.proofs.ByRecursion.{All-from_get_or}
 use Rattle.std.proofs.lemmas.Bool.{eqb-true, or_cases}
-use Rattle.suite.specs.Meanings.{Bytes16}
-use Rattle.suite.specs.Schemes.{ok_role}
+use Rattle.suite.specs.Meanings.{IsBytes16}
+use Rattle.suite.specs.Schemes.{is_role}
 
 -- sixteen bytes, by what stands at each place
-pub bytes16_from : (xs : List ℕ) → length xs ≡ 16 → ((k : ℕ) → get_or xs k 0 < 256) → Bytes16 xs
+pub bytes16_from : (xs : List ℕ) → length xs ≡ 16 → ((k : ℕ) → get_or xs k 0 < 256) → IsBytes16 xs
 bytes16_from xs long at = record { long = long; bytes = All-from_get_or (λ x. x < 256) xs 0 (λ k low. at k) }
 
 -- a role is a byte
-pub role_byte-small : (role : ℕ) → ok_role role ≡ true → role < 256
+pub role_byte-small : (role : ℕ) → is_role role ≡ true → role < 256
 role_byte-small role ok =
     ⊎_elim
     (λ a. let e = eqb-true role 1 a in omega arith)

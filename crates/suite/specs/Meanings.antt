@@ -4,13 +4,13 @@ use Rattle.std.specs.List.{AllByRecursion}
 use Rattle.suite.specs.declared.types.KeyKind.{KeyKind}
 use Rattle.suite.specs.Numbers.{kind_number}
 
-abbrev pub Bytes : List ℕ → Type 0
-Bytes xs = AllByRecursion (λ x. x < 256) xs
+abbrev pub IsBytes : List ℕ → Type 0
+IsBytes xs = AllByRecursion (λ x. x < 256) xs
 
 -- a root, a seed or the value of a key
-pub record Bytes16 (xs : List ℕ) : Type 0 where
+pub record IsBytes16 (xs : List ℕ) : Type 0 where
   pub long : length xs ≡ 16
-  pub bytes : Bytes xs
+  pub bytes : IsBytes xs
 
 pub record Key : Type 0 where
   pub serial : ℕ
@@ -37,13 +37,13 @@ keyring_of m = record { root = m.root; newest = m.newest; live = m.live }
 abbrev pub with_last : Meaning → ℕ → Meaning
 with_last m last = record { root = m.root; last = last; newest = m.newest; live = m.live }
 
-abbrev pub same_kind : KeyKind → KeyKind → Bool
-same_kind k j = kind_number k == kind_number j
+abbrev pub is_same_kind : KeyKind → KeyKind → Bool
+is_same_kind k j = kind_number k == kind_number j
 
 -- the value of the live key of that kind and serial
 abbrev pub value_in : List Key → KeyKind → ℕ → Option (List ℕ)
 value_in [] kind n = None
-value_in (k ∷ ks) kind n = cond (k.serial == n && same_kind k.kind kind) (Some k.value) (value_in ks kind n)
+value_in (k ∷ ks) kind n = cond (k.serial == n && is_same_kind k.kind kind) (Some k.value) (value_in ks kind n)
 
 -- the same, and no bytes where there is no such key
 abbrev pub value_of : List Key → KeyKind → ℕ → List ℕ
@@ -54,24 +54,24 @@ is_live [] n = false
 is_live (k ∷ ks) n = k.serial == n || is_live ks n
 
 -- the keys but the one of that serial
-abbrev pub without : List Key → ℕ → List Key
-without [] n = []
-without (k ∷ ks) n = cond (k.serial == n) ks (k ∷ without ks n)
+abbrev pub keys_without : List Key → ℕ → List Key
+keys_without [] n = []
+keys_without (k ∷ ks) n = cond (k.serial == n) ks (k ∷ keys_without ks n)
 
 -- no two keys have one serial
-abbrev pub Apart : List Key → Type 0
-Apart [] = Unit {0}
-Apart (k ∷ ks) = (is_live ks k.serial ≡ false) × Apart ks
+abbrev pub HasDistinctSerials : List Key → Type 0
+HasDistinctSerials [] = Unit {0}
+HasDistinctSerials (k ∷ ks) = (is_live ks k.serial ≡ false) × HasDistinctSerials ks
 
 -- root and values of sixteen bytes, serials from 1 to the newest, and no two keys with one serial
-pub record Formed (k : Keyring) : Type 0 where
-  pub root : Bytes16 k.root
-  pub values : AllByRecursion (λ j. Bytes16 j.value) k.live
+pub record IsFormed (k : Keyring) : Type 0 where
+  pub root : IsBytes16 k.root
+  pub values : AllByRecursion (λ j. IsBytes16 j.value) k.live
   pub serials : AllByRecursion (λ j. (1 ≤ j.serial) × (j.serial ≤ k.newest)) k.live
-  pub apart : Apart k.live
+  pub apart : HasDistinctSerials k.live
 
 -- what every suite owes at every moment
-pub record WellFormed (m : Meaning) : Type 0 where
-  pub keyring : Formed (keyring_of m)
+pub record IsWellFormed (m : Meaning) : Type 0 where
+  pub keyring : IsFormed (keyring_of m)
   pub newest : m.newest ≤ m.last
   pub last : m.last < 2 ^ 32

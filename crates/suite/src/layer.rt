@@ -2,8 +2,8 @@ ghost use Rattle.std.specs.Prelude.{◌≡◌, ℕ, List, Result};
 ghost use Rattle.suite.specs.declared.types.Denial.{Denial};
 ghost use Rattle.suite.specs.declared.types.KeyKind.{KeyKind};
 ghost use Rattle.suite.specs.declared.types.KeyKind.TheVariants.{SharedSecret, LinkKey};
-ghost use Rattle.suite.specs.Meanings.{WellFormed, with_last};
-ghost use Rattle.suite.specs.Calls.{agreed, derived, serial_answer, after_making, destroy_answer, after_destroy};
+ghost use Rattle.suite.specs.Meanings.{IsWellFormed, with_last};
+ghost use Rattle.suite.specs.Calls.{agree_result, derive_result, serial_result, after_making, destroy_result, after_destroy};
 
 use super::suite_trait::{HasMeaning, Suite};
 use super::types::{Denial, KindNumbers};
@@ -25,21 +25,21 @@ pub trait Layer: HasMeaning {
         ensures { result ≡ (Self.meaning self.now).last };
 
     fn agree_through(&mut self, seed: &[u8], offer: &[u8], role: u8) -> Result<u32, Denial>
-        ensures answer { result ≡ serial_answer (Self.meaning self.old) (agreed Self.Below.scheme (Self.meaning self.old) seed.now offer.now role) }
-        ensures after { Self.meaning self.new ≡ after_making (Self.meaning self.old) SharedSecret (agreed Self.Below.scheme (Self.meaning self.old) seed.now offer.now role) }
-        ensures made { made self.old SharedSecret (agreed Self.Below.scheme (Self.meaning self.old) seed.now offer.now role) result self.new };
+        ensures answer { result ≡ serial_result (Self.meaning self.old) (agree_result Self.Below.scheme (Self.meaning self.old) seed.now offer.now role) }
+        ensures after { Self.meaning self.new ≡ after_making (Self.meaning self.old) SharedSecret (agree_result Self.Below.scheme (Self.meaning self.old) seed.now offer.now role) }
+        ensures made { made self.old SharedSecret (agree_result Self.Below.scheme (Self.meaning self.old) seed.now offer.now role) result self.new };
 
     fn derive_through(&mut self, key: u32) -> Result<u32, Denial>
-        ensures answer { result ≡ serial_answer (Self.meaning self.old) (derived Self.Below.scheme (Self.meaning self.old) key) }
-        ensures after { Self.meaning self.new ≡ after_making (Self.meaning self.old) LinkKey (derived Self.Below.scheme (Self.meaning self.old) key) }
-        ensures made { made self.old LinkKey (derived Self.Below.scheme (Self.meaning self.old) key) result self.new };
+        ensures answer { result ≡ serial_result (Self.meaning self.old) (derive_result Self.Below.scheme (Self.meaning self.old) key) }
+        ensures after { Self.meaning self.new ≡ after_making (Self.meaning self.old) LinkKey (derive_result Self.Below.scheme (Self.meaning self.old) key) }
+        ensures made { made self.old LinkKey (derive_result Self.Below.scheme (Self.meaning self.old) key) result self.new };
 
     fn destroy_through(&mut self, key: u32) -> Result<(), Denial>
-        ensures answer { result ≡ destroy_answer (Self.meaning self.old) key }
+        ensures answer { result ≡ destroy_result (Self.meaning self.old) key }
         ensures after { Self.meaning self.new ≡ after_destroy (Self.meaning self.old) key }
         ensures destroyed { destroyed self.old key result self.new };
 
-    ghost formed: { (x : Self) → WellFormed (Self.meaning x) };
+    ghost formed: { (x : Self) → IsWellFormed (Self.meaning x) };
 }
 
 // What changes a key repeats the trait's clauses, since clauses here stand in place of those, and says what the layer promises beside.
@@ -71,17 +71,17 @@ impl<L: Layer> Suite for L {
     }
 
     fn agree(&mut self, seed: &[u8], offer: &[u8], role: u8) -> Result<u32, Denial>
-        ensures answer { result ≡ serial_answer (L.meaning self.old) (agreed L.Below.scheme (L.meaning self.old) seed.now offer.now role) }
-        ensures after { L.meaning self.new ≡ after_making (L.meaning self.old) SharedSecret (agreed L.Below.scheme (L.meaning self.old) seed.now offer.now role) }
-        ensures made { L.made self.old SharedSecret (agreed L.Below.scheme (L.meaning self.old) seed.now offer.now role) result self.new }
+        ensures answer { result ≡ serial_result (L.meaning self.old) (agree_result L.Below.scheme (L.meaning self.old) seed.now offer.now role) }
+        ensures after { L.meaning self.new ≡ after_making (L.meaning self.old) SharedSecret (agree_result L.Below.scheme (L.meaning self.old) seed.now offer.now role) }
+        ensures made { L.made self.old SharedSecret (agree_result L.Below.scheme (L.meaning self.old) seed.now offer.now role) result self.new }
     {
         self.agree_through(seed, offer, role)
     }
 
     fn derive(&mut self, key: u32) -> Result<u32, Denial>
-        ensures answer { result ≡ serial_answer (L.meaning self.old) (derived L.Below.scheme (L.meaning self.old) key) }
-        ensures after { L.meaning self.new ≡ after_making (L.meaning self.old) LinkKey (derived L.Below.scheme (L.meaning self.old) key) }
-        ensures made { L.made self.old LinkKey (derived L.Below.scheme (L.meaning self.old) key) result self.new }
+        ensures answer { result ≡ serial_result (L.meaning self.old) (derive_result L.Below.scheme (L.meaning self.old) key) }
+        ensures after { L.meaning self.new ≡ after_making (L.meaning self.old) LinkKey (derive_result L.Below.scheme (L.meaning self.old) key) }
+        ensures made { L.made self.old LinkKey (derive_result L.Below.scheme (L.meaning self.old) key) result self.new }
     {
         self.derive_through(key)
     }
@@ -115,7 +115,7 @@ impl<L: Layer> Suite for L {
     }
 
     fn destroy(&mut self, key: u32) -> Result<(), Denial>
-        ensures answer { result ≡ destroy_answer (L.meaning self.old) key }
+        ensures answer { result ≡ destroy_result (L.meaning self.old) key }
         ensures after { L.meaning self.new ≡ after_destroy (L.meaning self.old) key }
         ensures destroyed { L.destroyed self.old key result self.new }
     {

@@ -1,9 +1,9 @@
 ghost use Rattle.std.specs.Prelude.{◌≡◌, length};
-ghost use Rattle.buffers.specs.Buffers.{length_answer, written};
+ghost use Rattle.buffers.specs.Buffers.{length_result, buffer_after};
 ghost use Rattle.suite.specs.declared.types.KeyKind.TheVariants.{SharedSecret, LinkKey};
-ghost use Rattle.suite.specs.Meanings.{Meaning, WellFormed, keyring_of};
-ghost use Rattle.suite.specs.Schemes.{Scheme, Lawful, numbers_of};
-ghost use Rattle.suite.specs.Calls.{offered, agreed, derived, checked, revealed, sealed, opened, serial_answer, after_making, open_answer, open_written, destroy_answer, after_destroy};
+ghost use Rattle.suite.specs.Meanings.{Meaning, IsWellFormed, keyring_of};
+ghost use Rattle.suite.specs.Schemes.{Scheme, IsLawful, numbers_of};
+ghost use Rattle.suite.specs.Calls.{offer_result, agree_result, derive_result, check_result, reveal_result, seal_result, open_result, serial_result, after_making, open_lengths, buffer_after_open, destroy_result, after_destroy};
 
 use super::types::{Denial, KindNumbers};
 
@@ -35,28 +35,28 @@ pub trait Suite: HasMeaning {
 
     /// Writes the offer of a seed.
     fn offer(&self, seed: &[u8], out: &mut [u8]) -> Result<usize, Denial>
-        ensures answer { result ≡ length_answer (offered scheme (Self.meaning self.now) seed.now (length out.old)) }
-        ensures buffer { out.new ≡ written (offered scheme (Self.meaning self.now) seed.now (length out.old)) out.old };
+        ensures answer { result ≡ length_result (offer_result scheme (Self.meaning self.now) seed.now (length out.old)) }
+        ensures buffer { out.new ≡ buffer_after (offer_result scheme (Self.meaning self.now) seed.now (length out.old)) out.old };
 
     /// Makes a shared secret from one's own seed and the peer's offer, and answers its serial.
     fn agree(&mut self, seed: &[u8], offer: &[u8], role: u8) -> Result<u32, Denial>
-        ensures answer { result ≡ serial_answer (Self.meaning self.old) (agreed scheme (Self.meaning self.old) seed.now offer.now role) }
-        ensures after { Self.meaning self.new ≡ after_making (Self.meaning self.old) SharedSecret (agreed scheme (Self.meaning self.old) seed.now offer.now role) };
+        ensures answer { result ≡ serial_result (Self.meaning self.old) (agree_result scheme (Self.meaning self.old) seed.now offer.now role) }
+        ensures after { Self.meaning self.new ≡ after_making (Self.meaning self.old) SharedSecret (agree_result scheme (Self.meaning self.old) seed.now offer.now role) };
 
     /// Makes a link key from a live shared secret, and answers its serial.
     fn derive(&mut self, key: u32) -> Result<u32, Denial>
-        ensures answer { result ≡ serial_answer (Self.meaning self.old) (derived scheme (Self.meaning self.old) key) }
-        ensures after { Self.meaning self.new ≡ after_making (Self.meaning self.old) LinkKey (derived scheme (Self.meaning self.old) key) };
+        ensures answer { result ≡ serial_result (Self.meaning self.old) (derive_result scheme (Self.meaning self.old) key) }
+        ensures after { Self.meaning self.new ≡ after_making (Self.meaning self.old) LinkKey (derive_result scheme (Self.meaning self.old) key) };
 
     /// Writes a shared secret's check value for a role.
     fn check(&self, key: u32, role: u8, out: &mut [u8]) -> Result<usize, Denial>
-        ensures answer { result ≡ length_answer (checked scheme (Self.meaning self.now) key role (length out.old)) }
-        ensures buffer { out.new ≡ written (checked scheme (Self.meaning self.now) key role (length out.old)) out.old };
+        ensures answer { result ≡ length_result (check_result scheme (Self.meaning self.now) key role (length out.old)) }
+        ensures buffer { out.new ≡ buffer_after (check_result scheme (Self.meaning self.now) key role (length out.old)) out.old };
 
     /// Writes the sixteen bytes of a shared secret.
     fn reveal(&self, key: u32, out: &mut [u8]) -> Result<usize, Denial>
-        ensures answer { result ≡ length_answer (revealed (Self.meaning self.now) key (length out.old)) }
-        ensures buffer { out.new ≡ written (revealed (Self.meaning self.now) key (length out.old)) out.old };
+        ensures answer { result ≡ length_result (reveal_result (Self.meaning self.now) key (length out.old)) }
+        ensures buffer { out.new ≡ buffer_after (reveal_result (Self.meaning self.now) key (length out.old)) out.old };
 
     /// Writes the payload that protects the data under a link key.
     fn seal(
@@ -67,8 +67,8 @@ pub trait Suite: HasMeaning {
         plain: &[u8],
         out: &mut [u8],
     ) -> Result<usize, Denial>
-        ensures answer { result ≡ length_answer (sealed scheme (Self.meaning self.now) key role number plain.now (length out.old)) }
-        ensures buffer { out.new ≡ written (sealed scheme (Self.meaning self.now) key role number plain.now (length out.old)) out.old };
+        ensures answer { result ≡ length_result (seal_result scheme (Self.meaning self.now) key role number plain.now (length out.old)) }
+        ensures buffer { out.new ≡ buffer_after (seal_result scheme (Self.meaning self.now) key role number plain.now (length out.old)) out.old };
 
     /// Answers role, number and data length of a payload and writes the data; none, and nothing written, if it is not good. The three are
     /// a tuple of numbers, as the payload has them and the protocol compares them.
@@ -78,15 +78,15 @@ pub trait Suite: HasMeaning {
         payload: &[u8],
         out: &mut [u8],
     ) -> Result<Option<(u8, u32, usize)>, Denial>
-        ensures answer { result ≡ open_answer (opened scheme (Self.meaning self.now) key payload.now (length out.old)) }
-        ensures buffer { out.new ≡ open_written (opened scheme (Self.meaning self.now) key payload.now (length out.old)) out.old };
+        ensures answer { result ≡ open_lengths (open_result scheme (Self.meaning self.now) key payload.now (length out.old)) }
+        ensures buffer { out.new ≡ buffer_after_open (open_result scheme (Self.meaning self.now) key payload.now (length out.old)) out.old };
 
     /// Removes one live key.
     fn destroy(&mut self, key: u32) -> Result<(), Denial>
-        ensures answer { result ≡ destroy_answer (Self.meaning self.old) key }
+        ensures answer { result ≡ destroy_result (Self.meaning self.old) key }
         ensures after { Self.meaning self.new ≡ after_destroy (Self.meaning self.old) key };
 
-    ghost lawful: { Lawful scheme };
+    ghost lawful: { IsLawful scheme };
 
-    ghost formed: { (x : Self) → WellFormed (Self.meaning x) };
+    ghost formed: { (x : Self) → IsWellFormed (Self.meaning x) };
 }

@@ -1,12 +1,12 @@
 -- A kind of suite by what it computes of roots and of the values of keys: offers are seeds, payloads are as `Payloads` has them.
 use Rattle.std.specs.Prelude.{◌≡◌, ℕ, ◌+◌, ◌<◌, ◌≤◌, true, List, length, ◌==◌}
-use Rattle.suite.specs.Meanings.{Bytes, Bytes16}
+use Rattle.suite.specs.Meanings.{IsBytes, IsBytes16}
 use Rattle.suite.specs.Numbers.{role_byte}
 use Rattle.suite.specs.declared.types.Role.TheVariants.{Sender, Recipient}
-use Rattle.suite.specs.Schemes.{Scheme, ok_role}
-use Rattle.suite_of.specs.Payloads.{body_of, closed, read_of}
+use Rattle.suite.specs.Schemes.{Scheme, is_role}
+use Rattle.suite_of.specs.Payloads.{payload_body, with_field, payload_parts}
 
-pub record Functions : Type 0 where
+pub record KindFunctions : Type 0 where
   pub pid : ℕ
   pub check_length : ℕ
   -- how many bytes the last field of a payload has
@@ -25,7 +25,7 @@ pub record Functions : Type 0 where
   pub field_of : List ℕ → List ℕ → List ℕ
 
 -- the kind's numbers and functions: of all that the suite means they see the root alone, and of a key its value
-abbrev pub scheme_of : Functions → Scheme
+abbrev pub scheme_of : KindFunctions → Scheme
 scheme_of k = record {
   pid = k.pid;
   offer_length = 16;
@@ -38,22 +38,22 @@ scheme_of k = record {
   secret_of = λ keyring role seed offer. k.secret_of keyring.root role seed offer;
   check_of = λ keyring serial value role. k.check_of value role;
   link_of = λ keyring serial value. k.link_of value;
-  seal_of = λ keyring serial value role n plain. closed (k.field_of value) (body_of (k.stream_of value role n) role n plain);
-  open_of = λ keyring serial value payload. read_of k.field_length (k.field_of value) (k.stream_of value) payload;
+  seal_of = λ keyring serial value role n plain. with_field (k.field_of value) (payload_body (k.stream_of value role n) role n plain);
+  open_of = λ keyring serial value payload. payload_parts k.field_length (k.field_of value) (k.stream_of value) payload;
 }
 
 -- what a kind owes, for roots, seeds and values of sixteen bytes
-pub record Sound (k : Functions) : Type 0 where
+pub record IsLawfulKind (k : KindFunctions) : Type 0 where
   pub pid_byte : k.pid < 256
   pub check_bound : k.check_length ≤ 16
   pub field_bound : k.field_length ≤ 16
   pub final_low : 0 < k.final
   pub final_bound : k.final ≤ 16777215
-  pub secret_is : (root seed offer : List ℕ) (role : ℕ) → Bytes16 root → Bytes16 seed → Bytes16 offer → ok_role role ≡ true → Bytes16 (k.secret_of root role seed offer)
-  pub agrees : (root one other : List ℕ) → Bytes16 root → Bytes16 one → Bytes16 other → k.secret_of root (role_byte Sender) one other ≡ k.secret_of root (role_byte Recipient) other one
-  pub check_long : (value : List ℕ) (role : ℕ) → Bytes16 value → ok_role role ≡ true → length (k.check_of value role) ≡ k.check_length
-  pub check_bytes : (value : List ℕ) (role : ℕ) → Bytes16 value → ok_role role ≡ true → Bytes (k.check_of value role)
-  pub link_is : (value : List ℕ) → Bytes16 value → Bytes16 (k.link_of value)
-  pub stream_byte : (value : List ℕ) (role n i : ℕ) → Bytes16 value → k.stream_of value role n i < 256
-  pub field_long : (value body : List ℕ) → Bytes16 value → length (k.field_of value body) ≡ k.field_length
-  pub field_bytes : (value body : List ℕ) → Bytes16 value → Bytes (k.field_of value body)
+  pub secret_is : (root seed offer : List ℕ) (role : ℕ) → IsBytes16 root → IsBytes16 seed → IsBytes16 offer → is_role role ≡ true → IsBytes16 (k.secret_of root role seed offer)
+  pub agrees : (root one other : List ℕ) → IsBytes16 root → IsBytes16 one → IsBytes16 other → k.secret_of root (role_byte Sender) one other ≡ k.secret_of root (role_byte Recipient) other one
+  pub check_long : (value : List ℕ) (role : ℕ) → IsBytes16 value → is_role role ≡ true → length (k.check_of value role) ≡ k.check_length
+  pub check_bytes : (value : List ℕ) (role : ℕ) → IsBytes16 value → is_role role ≡ true → IsBytes (k.check_of value role)
+  pub link_is : (value : List ℕ) → IsBytes16 value → IsBytes16 (k.link_of value)
+  pub stream_byte : (value : List ℕ) (role n i : ℕ) → IsBytes16 value → k.stream_of value role n i < 256
+  pub field_long : (value body : List ℕ) → IsBytes16 value → length (k.field_of value body) ≡ k.field_length
+  pub field_bytes : (value body : List ℕ) → IsBytes16 value → IsBytes (k.field_of value body)

@@ -1,7 +1,7 @@
 pub mod Streams
 pub mod Payloads
 pub mod Kinds
-pub mod StreamLaws
-pub mod PayloadLaws
-pub mod KindLaws
-pub mod Kept
+pub mod StreamProofs
+pub mod PayloadProofs
+pub mod KindProofs
+pub mod KindMeanings

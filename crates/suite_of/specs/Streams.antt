@@ -2,6 +2,6 @@
 use Rattle.std.specs.Prelude.{ℕ, ◌+◌, List, [], ◌∷◌, bit_xor}
 
 -- data from the place i on: each byte XOR the byte of the stream at its place
-abbrev pub streamed : (ℕ → ℕ) → ℕ → List ℕ → List ℕ
-streamed stream i [] = []
-streamed stream i (x ∷ xs) = bit_xor x (stream i) ∷ streamed stream (i + 1) xs
+abbrev pub xor_stream : (ℕ → ℕ) → ℕ → List ℕ → List ℕ
+xor_stream stream i [] = []
+xor_stream stream i (x ∷ xs) = bit_xor x (stream i) ∷ xor_stream stream (i + 1) xs

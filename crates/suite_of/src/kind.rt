@@ -1,14 +1,14 @@
 ghost use Rattle.std.specs.Prelude.{◌≡◌, take};
 ghost use Rattle.suite.specs.Numbers.{role_byte};
 ghost use Rattle.suite.specs.Schemes.{numbers_of};
-ghost use Rattle.suite_of.specs.Kinds.{Functions, scheme_of, Sound};
-ghost use Rattle.suite_of.specs.Streams.{streamed};
+ghost use Rattle.suite_of.specs.Kinds.{KindFunctions, scheme_of, IsLawfulKind};
+ghost use Rattle.suite_of.specs.Streams.{xor_stream};
 
 use suite::{KindNumbers, Role};
 
 /// What a kind of suite computes of its root and of the values of keys.
 pub trait Kind {
-    ghost functions: { Functions };
+    ghost functions: { KindFunctions };
 
     fn numbers() -> KindNumbers
         ensures { result ≡ numbers_of (scheme_of functions) };
@@ -27,11 +27,11 @@ pub trait Kind {
 
     /// XORs the stream of a record into its data.
     fn stream(value: &[u8; 16], role: Role, number: u32, bytes: &mut [u8])
-        ensures { bytes.new ≡ streamed (functions.stream_of value.now (role_byte role) number) 0 bytes.old };
+        ensures { bytes.new ≡ xor_stream (functions.stream_of value.now (role_byte role) number) 0 bytes.old };
 
     /// A block that begins with the last field of a payload, from all before it.
     fn field(value: &[u8; 16], body: &[u8]) -> [u8; 16]
         ensures { take functions.field_length result ≡ functions.field_of value.now body.now };
 
-    ghost sound: { Sound functions };
+    ghost sound: { IsLawfulKind functions };
 }

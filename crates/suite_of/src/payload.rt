@@ -1,9 +1,9 @@
 ghost use Rattle.std.specs.Prelude.{◌≡◌, ◌+◌, ◌≤◌, length, Ok, IfSome};
 ghost use Rattle.std.specs.Option.{option_map};
-ghost use Rattle.buffers.specs.Buffers.{over};
-ghost use Rattle.suite.specs.Calls.{open_answer, open_written};
+ghost use Rattle.buffers.specs.Buffers.{with_front};
+ghost use Rattle.suite.specs.Calls.{open_lengths, buffer_after_open};
 ghost use Rattle.suite.specs.Numbers.{role_byte};
-ghost use Rattle.suite_of.specs.Payloads.{body_of, closed, parts_of, read_of};
+ghost use Rattle.suite_of.specs.Payloads.{payload_body, with_field, masked_parts, payload_parts};
 
 use super::bytes::{same, write};
 use super::kind::Kind;
@@ -29,7 +29,7 @@ fn write_body<K: Kind>(
 ) -> usize
     requires { length plain.now + 5 ≤ length out.old }
     ensures answer { result ≡ length plain.now + 5 }
-    ensures buffer { out.new ≡ over (body_of (K.functions.stream_of value.now (role_byte role) number) (role_byte role) number plain.now) out.old }
+    ensures buffer { out.new ≡ with_front (payload_body (K.functions.stream_of value.now (role_byte role) number) (role_byte role) number plain.now) out.old }
 {
     let [a, b, c, d] = number.to_be_bytes();
     let head = write(&[role.byte(), a, b, c, d], out);
@@ -49,8 +49,8 @@ pub(crate) fn write_payload<K: Kind>(
     out: &mut [u8],
 ) -> usize
     requires { length plain.now + 21 ≤ length out.old }
-    ensures answer { result ≡ length (closed (K.functions.field_of value.now) (body_of (K.functions.stream_of value.now (role_byte role) number) (role_byte role) number plain.now)) }
-    ensures buffer { out.new ≡ over (closed (K.functions.field_of value.now) (body_of (K.functions.stream_of value.now (role_byte role) number) (role_byte role) number plain.now)) out.old }
+    ensures answer { result ≡ length (with_field (K.functions.field_of value.now) (payload_body (K.functions.stream_of value.now (role_byte role) number) (role_byte role) number plain.now)) }
+    ensures buffer { out.new ≡ with_front (with_field (K.functions.field_of value.now) (payload_body (K.functions.stream_of value.now (role_byte role) number) (role_byte role) number plain.now)) out.old }
 {
     let end = write_body::<K>(value, role, number, plain, out);
     let field = K::field(value, &out[..end]);
@@ -60,7 +60,7 @@ pub(crate) fn write_payload<K: Kind>(
 // Role, number and masked data of a payload; none if it is not good.
 fn parts<'a, K: Kind>(value: &[u8; 16], payload: &'a [u8]) -> Option<(Role, u32, &'a [u8])>
     ensures fits { IfSome result (λ t. length t.2.now ≤ length payload.now) }
-    ensures parts { option_map (λ t. (role_byte t.0, t.1, t.2.now)) result ≡ parts_of K.functions.field_length (K.functions.field_of value.now) payload.now }
+    ensures parts { option_map (λ t. (role_byte t.0, t.1, t.2.now)) result ≡ masked_parts K.functions.field_length (K.functions.field_of value.now) payload.now }
 {
     let (body, field) = payload.split_at_checked(payload.len().checked_sub(field_length::<K>())?)?;
     let [role, a, b, c, d, masked @ ..] = body else {
@@ -80,8 +80,8 @@ pub(crate) fn read_payload<K: Kind>(
     out: &mut [u8],
 ) -> Option<(u8, u32, usize)>
     requires { length payload.now ≤ length out.old }
-    ensures answer { Ok result ≡ open_answer (Ok (read_of K.functions.field_length (K.functions.field_of value.now) (K.functions.stream_of value.now) payload.now)) }
-    ensures buffer { out.new ≡ open_written (Ok (read_of K.functions.field_length (K.functions.field_of value.now) (K.functions.stream_of value.now) payload.now)) out.old }
+    ensures answer { Ok result ≡ open_lengths (Ok (payload_parts K.functions.field_length (K.functions.field_of value.now) (K.functions.stream_of value.now) payload.now)) }
+    ensures buffer { out.new ≡ buffer_after_open (Ok (payload_parts K.functions.field_length (K.functions.field_of value.now) (K.functions.stream_of value.now) payload.now)) out.old }
 {
     let (role, number, masked) = parts::<K>(value, payload)?;
     let n = write(masked, out);

@@ -2,7 +2,7 @@ use Rattle.std.proofs.Common.{◌≡◌, ℕ, List, ◌+◌, ◌-◌, ◌*◌, �
 use Rattle.std.proofs.lemmas.List.{drop-drop}
 use Rattle.aes128.specs.Keys.{words_of}
 use Rattle.aes128.specs.Cipher.{cipher_with}
-use Rattle.cmac.specs.Cmac.{cmac_with, chain, before, last_block, xor_block}
+use Rattle.cmac.specs.Cmac.{cmac_with, chain_value, blocks_before_last, last_block, xor_block}
 use Rattle.cmac.proofs.BlockLaws.{more, last_block-drop}
 use Rattle.cmac.proofs.tag.Goals as goal
 
@@ -35,9 +35,9 @@ returns c =
     let x = c.loop-block.x in
     let i = c.loop-block.invariant in
     let small : length rest ≤ 16 = search rules in
-    let place : length m - length rest ≡ 16 * before m = omega arith in
-    let count : (length m - length rest) / 16 ≡ before m = omega arith in
-    let at : rest ≡ drop (16 * before m) m = i.rest ∙ ap (λ (n : ℕ). drop n m) place in
+    let place : length m - length rest ≡ 16 * blocks_before_last m = omega arith in
+    let count : (length m - length rest) / 16 ≡ blocks_before_last m = omega arith in
+    let at : rest ≡ drop (16 * blocks_before_last m) m = i.rest ∙ ap (λ (n : ℕ). drop n m) place in
     let last : c.last_block.result ≡ last_block ws m = c.last_block.ensures ∙ (ap (last_block ws) at ∙ last_block-drop ws m) in
-    let chained : x ≡ chain ws m (before m) = i.chained ∙ ap (chain ws m) count in
+    let chained : x ≡ chain_value ws m (blocks_before_last m) = i.chained ∙ ap (chain_value ws m) count in
     c.encrypt.ensures ∙ ap (cipher_with ws) (c.xor_block-2.ensures ∙ (ap (λ (b : List ℕ). xor_block b x) last ∙ ap (xor_block (last_block ws m)) chained))

@@ -1,6 +1,6 @@
 use Rattle.aes128.specs.Keys.{words_of}
 use Rattle.std.proofs.Common.{◌≡◌, ◌-◌, ◌/◌, ◌%◌, ◌≤◌, length, drop}
-use Rattle.cmac.specs.Cmac.{chain}
+use Rattle.cmac.specs.Cmac.{chain_value}
 use Rattle.cmac.proofs.tag.Given as goal
 
 abbrev pub invariant-loop-block : goal.invariant-loop-block
@@ -11,7 +11,7 @@ invariant-loop-block l =
       whole : done % 16 ≡ 0;
       rest : l.rest ≡ drop done l.text;
       last : done ≤ length l.text - 1;
-      chained : l.x ≡ chain (words_of l.cipher) l.text (done / 16);
+      chained : l.x ≡ chain_value (words_of l.cipher) l.text (done / 16);
     }
 
 abbrev pub decreases-loop-block : goal.decreases-loop-block

@@ -6,7 +6,7 @@ use super::Entity;
 use super::suite_calls::agree;
 use crate::bytes::put;
 use frame::{Body, Service};
-use protocol::{Confirmation, MachineFault, Outcome, State, SuiteFault, met_in};
+use protocol::{Confirmation, MachineFault, Outcome, State, SuiteFault, in_state};
 use suite::{Role, Suite};
 
 impl<S: Suite> Entity<S> {
@@ -23,9 +23,9 @@ impl<S: Suite> Entity<S> {
         ensures { HasEffect (view S.meaning self.old) (on_act_req S.scheme (view S.meaning self.old) service pid offer.now seed.now) (view S.meaning self.new) result reply.old reply.new }
     {
         if pid != S::numbers().pid {
-            return Err(self.met(SuiteFault::OtherPid.into()));
+            return Err(self.fault(SuiteFault::OtherPid.into()));
         }
-        let made = met_in(
+        let made = in_state(
             self.state,
             agree(&mut self.suite, seed, offer, Role::Recipient),
         )?;
@@ -36,7 +36,7 @@ impl<S: Suite> Entity<S> {
         let mut scratch = [0; 255];
         let own = self.offer(seed, &mut scratch);
         let length = put(service, Body::ActRes(own), reply);
-        Ok(Outcome::quiet(Confirmation::Nothing, length, made))
+        Ok(Outcome::ongoing(Confirmation::Nothing, length, made))
     }
 
     // Select: the peer takes part. The Sender agrees, and asks for verification by its check value.
@@ -48,7 +48,7 @@ impl<S: Suite> Entity<S> {
         requires { 255 ≤ length reply.old }
         ensures { HasEffect (view S.meaning self.old) (on_act_res S.scheme (view S.meaning self.old) offer.now) (view S.meaning self.new) result reply.old reply.new }
     {
-        let made = met_in(
+        let made = in_state(
             self.state,
             agree(&mut self.suite, &self.seed, offer, Role::Sender),
         )?;
@@ -57,6 +57,6 @@ impl<S: Suite> Entity<S> {
         let mut scratch = [0; 255];
         let check = self.check_value(Role::Sender, &mut scratch);
         let length = put(self.service, Body::VfyReq(check), reply);
-        Ok(Outcome::quiet(Confirmation::Nothing, length, made))
+        Ok(Outcome::ongoing(Confirmation::Nothing, length, made))
     }
 }

@@ -1,6 +1,6 @@
 ghost use Rattle.std.specs.Prelude.{length};
-ghost use Rattle.protocol.specs.Calls.{Made};
-ghost use Rattle.entity.specs.Called.{called};
+ghost use Rattle.protocol.specs.Calls.{MakesCall};
+ghost use Rattle.entity.specs.CallViews.{call_of};
 ghost use Rattle.entity.specs.Views.{view};
 
 use super::Entity;
@@ -19,7 +19,7 @@ impl<S: Suite> Entity<S> {
         slip: &Slip,
         buffer: &mut [u8],
     ) -> Result<Outcome, Refusal>
-        ensures { Made S.scheme (view S.meaning self.old) (called call.now (length buffer.old)) (view S.meaning self.new) result buffer.old buffer.new }
+        ensures { MakesCall S.scheme (view S.meaning self.old) (call_of call.now (length buffer.old)) (view S.meaning self.new) result buffer.old buffer.new }
     {
         match *call {
             Call::Invoke { service, pid, seed } => self.invoke(service, pid, seed, buffer),

@@ -1,7 +1,7 @@
 ghost use Rattle.std.specs.Prelude.{◌≡◌, ◌%◌, ◌≤◌, length, Ok};
-ghost use Rattle.protocol.specs.Models.{without_key, idle, keys_of};
+ghost use Rattle.protocol.specs.Models.{without_key, idle_model, session_keys};
 ghost use Rattle.protocol.specs.Steps.{HasEffect};
-ghost use Rattle.protocol.specs.Calls.{faulted, error_service};
+ghost use Rattle.protocol.specs.Calls.{error_effect, error_service};
 ghost use Rattle.entity.specs.Views.{view};
 
 use super::Entity;
@@ -33,8 +33,8 @@ fn destroy<S: Suite>(suite: &mut S, key: u32)
 impl<S: Suite> Entity<S> {
     // The keys go, the link key first, and all that was kept is zeros.
     pub(super) fn enter_idle(&mut self) -> Destroyed
-        ensures model { view S.meaning self.new ≡ idle (view S.meaning self.old) }
-        ensures destroyed { result ≡ keys_of (view S.meaning self.old) }
+        ensures model { view S.meaning self.new ≡ idle_model (view S.meaning self.old) }
+        ensures destroyed { result ≡ session_keys (view S.meaning self.old) }
     {
         let destroyed = Destroyed {
             link: self.link,
@@ -58,8 +58,8 @@ impl<S: Suite> Entity<S> {
         length: usize,
         fault: Option<Fault>,
     ) -> Outcome
-        ensures model { view S.meaning self.new ≡ idle (view S.meaning self.old) }
-        ensures answer { result ≡ record { confirmation = confirmation; length = length; made = 0; destroyed = keys_of (view S.meaning self.old); fault = fault } }
+        ensures model { view S.meaning self.new ≡ idle_model (view S.meaning self.old) }
+        ensures answer { result ≡ record { confirmation = confirmation; length = length; made = 0; destroyed = session_keys (view S.meaning self.old); fault = fault } }
     {
         Outcome {
             confirmation,
@@ -74,7 +74,7 @@ impl<S: Suite> Entity<S> {
     pub(super) fn fail(&mut self, sep: u8, fault: Fault, reply: &mut [u8]) -> Outcome
         requires room { 255 ≤ length reply.old }
         requires message { fault.message ≡ sep % 16 }
-        ensures { HasEffect (view S.meaning self.old) (faulted (view S.meaning self.old) sep fault.machine) (view S.meaning self.new) (Ok result) reply.old reply.new }
+        ensures { HasEffect (view S.meaning self.old) (error_effect (view S.meaning self.old) sep fault.machine) (view S.meaning self.new) (Ok result) reply.old reply.new }
     {
         let code = fault.code();
         let service = error_service(self.service, sep, fault.machine.state);

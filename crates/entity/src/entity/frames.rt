@@ -1,12 +1,12 @@
 ghost use Rattle.std.specs.Prelude.{◌≡◌, ◌%◌, ◌≤◌, length, IfErr, IfOk};
 ghost use Rattle.std.specs.Result.{result_map_both};
-ghost use Rattle.frame.specs.Frames.{fields, parts};
+ghost use Rattle.frame.specs.Frames.{bytes_after_sep, parts_of};
 ghost use Rattle.frame.specs.Reading.{reading};
-ghost use Rattle.protocol.specs.Steps.{HasEffect, heard as heard_step};
-ghost use Rattle.protocol.specs.Calls.{Made, frame as frame_call, blocked, admitted};
-ghost use Rattle.entity.specs.Called.{brought, fitted};
+ghost use Rattle.protocol.specs.Steps.{HasEffect, reading_effect};
+ghost use Rattle.protocol.specs.Calls.{MakesCall, frame as frame_call, is_blocked, admission};
+ghost use Rattle.entity.specs.CallViews.{ancillary_of, fitted_ancillary};
 ghost use Rattle.entity.specs.Views.{view};
-ghost use Rattle.entity.specs.Results.{heard_parts, machine_result};
+ghost use Rattle.entity.specs.ResultViews.{reading_parts, machine_result};
 
 use super::Entity;
 use crate::ancillary::{Ancillary, Fitted};
@@ -18,7 +18,7 @@ use suite::Suite;
 impl<S: Suite> Entity<S> {
     // A record cannot be taken while the data of the one before it is held.
     fn blocks(&self, message: &Message<'_>) -> bool
-        ensures { result ≡ blocked (view S.meaning self.now) (parts message.now) }
+        ensures { result ≡ is_blocked (view S.meaning self.now) (parts_of message.now) }
     {
         matches!(
             (self.state, message.body),
@@ -29,8 +29,8 @@ impl<S: Suite> Entity<S> {
 
     // What is heard of a frame, or why it is refused.
     fn admit<'a>(&self, frame: &'a [u8]) -> Result<Result<Message<'a>, CodecFault>, Refusal>
-        ensures heard { result_map_both heard_parts (λ e. e) result ≡ admitted (view S.meaning self.now) (reading frame.now) }
-        ensures short { IfOk result (λ h. IfOk h (λ m. length (fields (parts m).said) ≤ 254)) }
+        ensures heard { result_map_both reading_parts (λ e. e) result ≡ admission (view S.meaning self.now) (reading frame.now) }
+        ensures short { IfOk result (λ h. IfOk h (λ m. length (bytes_after_sep (parts_of m).contents) ≤ 254)) }
     {
         match read(frame) {
             Ok(message) if self.blocks(&message) => Err(Refusal::DataHeld),
@@ -49,8 +49,8 @@ impl<S: Suite> Entity<S> {
         reply: &mut [u8],
     ) -> Result<Outcome, Fault>
         requires room { 255 ≤ length reply.old }
-        requires short { IfOk heard (λ m. length (fields (parts m).said) ≤ 254) }
-        ensures step { HasEffect (view S.meaning self.old) (heard_step S.scheme (view S.meaning self.old) (fitted beside.entry) (heard_parts heard.entry)) (view S.meaning self.new) (machine_result result) reply.old reply.new }
+        requires short { IfOk heard (λ m. length (bytes_after_sep (parts_of m).contents) ≤ 254) }
+        ensures step { HasEffect (view S.meaning self.old) (reading_effect S.scheme (view S.meaning self.old) (fitted_ancillary beside.entry) (reading_parts heard.entry)) (view S.meaning self.new) (machine_result result) reply.old reply.new }
         ensures message { IfErr result (λ f. f.message ≡ sep % 16) }
     {
         Ok(at_message(sep % 16, self.step(heard, beside, reply))?)
@@ -66,7 +66,7 @@ impl<S: Suite> Entity<S> {
         beside: Ancillary<'_>,
         reply: &mut [u8],
     ) -> Result<Outcome, Refusal>
-        ensures { Made S.scheme (view S.meaning self.old) (frame_call frame.now (brought beside.entry) (length reply.old)) (view S.meaning self.new) result reply.old reply.new }
+        ensures { MakesCall S.scheme (view S.meaning self.old) (frame_call frame.now (ancillary_of beside.entry) (length reply.old)) (view S.meaning self.new) result reply.old reply.new }
     {
         has_room(reply)?;
         let beside = beside.fit()?;

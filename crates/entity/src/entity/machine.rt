@@ -1,22 +1,22 @@
 ghost use Rattle.std.specs.Prelude.{◌≡◌, ◌≤◌, length, IfOk};
-ghost use Rattle.frame.specs.Frames.{fields, parts};
-ghost use Rattle.protocol.specs.Steps.{HasEffect, heard as heard_step};
-ghost use Rattle.entity.specs.Called.{fitted};
+ghost use Rattle.frame.specs.Frames.{bytes_after_sep, parts_of};
+ghost use Rattle.protocol.specs.Steps.{HasEffect, reading_effect};
+ghost use Rattle.entity.specs.CallViews.{fitted_ancillary};
 ghost use Rattle.entity.specs.Views.{view};
-ghost use Rattle.entity.specs.Results.{heard_parts, other_service};
+ghost use Rattle.entity.specs.ResultViews.{reading_parts, session_result};
 
 use super::Entity;
 use crate::ancillary::Fitted;
 use frame::{Body, CodecFault, Message, Service};
-use protocol::{Cause, Confirmation, MachineFault, Met, Outcome, State, met_in};
+use protocol::{Cause, Confirmation, FaultInState, MachineFault, Outcome, State, in_state};
 use suite::Suite;
 
 impl<S: Suite> Entity<S> {
     // The fault of a cause that is met now.
-    pub(super) fn met(&self, cause: Cause) -> MachineFault
+    pub(super) fn fault(&self, cause: Cause) -> MachineFault
         ensures { result ≡ record { cause = cause; state = self.now.state } }
     {
-        Met {
+        FaultInState {
             fault: cause,
             state: self.state,
         }
@@ -25,10 +25,10 @@ impl<S: Suite> Entity<S> {
 
     // Whether a message is of the session's service.
     fn in_session(&self, service: Service) -> Result<(), MachineFault>
-        ensures { result ≡ other_service (view S.meaning self.now) service }
+        ensures { result ≡ session_result (view S.meaning self.now) service }
     {
         if service != self.service {
-            return Err(self.met(Cause::OtherService));
+            return Err(self.fault(Cause::OtherService));
         }
         Ok(())
     }
@@ -41,10 +41,10 @@ impl<S: Suite> Entity<S> {
         reply: &mut [u8],
     ) -> Result<Outcome, MachineFault>
         requires room { 255 ≤ length reply.old }
-        requires short { IfOk heard (λ m. length (fields (parts m).said) ≤ 254) }
-        ensures { HasEffect (view S.meaning self.old) (heard_step S.scheme (view S.meaning self.old) (fitted beside.entry) (heard_parts heard.entry)) (view S.meaning self.new) result reply.old reply.new }
+        requires short { IfOk heard (λ m. length (bytes_after_sep (parts_of m).contents) ≤ 254) }
+        ensures { HasEffect (view S.meaning self.old) (reading_effect S.scheme (view S.meaning self.old) (fitted_ancillary beside.entry) (reading_parts heard.entry)) (view S.meaning self.new) result reply.old reply.new }
     {
-        let Message { service, body } = met_in(self.state, heard)?;
+        let Message { service, body } = in_state(self.state, heard)?;
         match (self.state, body) {
             (_, Body::Error(_)) => Ok(self.end(Confirmation::Error, 0, None)),
             (State::Idle, Body::ActReq(pid, offer)) => {
@@ -70,7 +70,7 @@ impl<S: Suite> Entity<S> {
                 self.in_session(service)?;
                 self.on_enc(payload)
             }
-            _ => Err(self.met(Cause::NotAllowed)),
+            _ => Err(self.fault(Cause::NotAllowed)),
         }
     }
 }

@@ -1,5 +1,5 @@
 ghost use Rattle.std.specs.Prelude.{◌≡◌};
-ghost use Rattle.protocol.specs.Models.{fresh, idle, keys_of};
+ghost use Rattle.protocol.specs.Models.{new_model, idle_model, session_keys};
 ghost use Rattle.protocol.specs.Ends.{EveryCallEnds};
 ghost use Rattle.entity.specs.Views.{view};
 
@@ -14,7 +14,7 @@ impl<S: Suite> Entity<S> {
     /// A new entity, in Idle. The activation is used up: another entity takes another exchange. Whatever it is then called with, each call
     /// ends refused with nothing altered, or answered, a fault by an ERROR that tells it, with no key of the session left.
     pub fn new(_activation: Agreed, suite: S) -> Entity<S>
-        ensures model { view S.meaning result ≡ fresh (S.meaning suite) }
+        ensures model { view S.meaning result ≡ new_model (S.meaning suite) }
         ensures ends { EveryCallEnds S.scheme }
     {
         Entity {
@@ -32,8 +32,8 @@ impl<S: Suite> Entity<S> {
 
     /// Enters Idle, tells the serials of the keys destroyed (0 for none), and hands back the suite.
     pub fn put_away(mut self) -> (S, Destroyed)
-        ensures suite { S.meaning result.0 ≡ (idle (view S.meaning self)).means }
-        ensures destroyed { result.1 ≡ keys_of (view S.meaning self) }
+        ensures suite { S.meaning result.0 ≡ (idle_model (view S.meaning self)).means }
+        ensures destroyed { result.1 ≡ session_keys (view S.meaning self) }
     {
         let destroyed = self.enter_idle();
         let Entity {

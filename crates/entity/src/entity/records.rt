@@ -1,17 +1,17 @@
 ghost use Rattle.std.specs.Prelude.{◌≡◌, ◌≤◌, true, [], length, replicate};
 ghost use Rattle.protocol.specs.Models.{has_link};
-ghost use Rattle.protocol.specs.Steps.{HasEffect, record_length, sequenced, on_enc};
+ghost use Rattle.protocol.specs.Steps.{HasEffect, is_record_length, sequence_check, on_enc};
 ghost use Rattle.entity.specs.Views.{view};
 
 use super::Entity;
 use crate::bytes::wipe;
 use crate::held::Held;
-use protocol::{Cause, Confirmation, MachineFault, Outcome, SuiteFault, met_in};
+use protocol::{Cause, Confirmation, MachineFault, Outcome, SuiteFault, in_state};
 use suite::Suite;
 
 // How many bytes the data of a record has.
 pub(super) fn is_record_length(length: usize) -> bool
-    ensures { result ≡ record_length length }
+    ensures { result ≡ is_record_length length }
 {
     (1..=200).contains(&length)
 }
@@ -19,7 +19,7 @@ pub(super) fn is_record_length(length: usize) -> bool
 impl<S: Suite> Entity<S> {
     // The sequence check of role, number and data length: whether the record is a new one.
     fn is_next(&self, opened: (u8, u32, usize)) -> Result<bool, Cause>
-        ensures { result ≡ sequenced S.scheme (view S.meaning self.now) opened }
+        ensures { result ≡ sequence_check S.scheme (view S.meaning self.now) opened }
     {
         let (role, number, length) = opened;
         if !is_record_length(length) {
@@ -43,14 +43,14 @@ impl<S: Suite> Entity<S> {
         requires payload { length payload.now ≤ 254 }
         ensures { HasEffect (view S.meaning self.old) (on_enc S.scheme (view S.meaning self.old) payload.now) (view S.meaning self.new) result [] [] }
     {
-        let opened = met_in(self.state, self.open(payload, scratch))?;
-        if !met_in(self.state, self.is_next(opened))? {
-            return Ok(Outcome::quiet(Confirmation::Dropped, 0, 0));
+        let opened = in_state(self.state, self.open(payload, scratch))?;
+        if !in_state(self.state, self.is_next(opened))? {
+            return Ok(Outcome::ongoing(Confirmation::Dropped, 0, 0));
         }
         let (_, number, length) = opened;
         self.number = number;
         self.held = Held::new(&scratch[..length]);
-        Ok(Outcome::quiet(Confirmation::DataAvailable, 0, 0))
+        Ok(Outcome::ongoing(Confirmation::DataAvailable, 0, 0))
     }
 
     // The lent bytes are zeros after, since data lay in them: they are lent because a contract cannot speak of a local.

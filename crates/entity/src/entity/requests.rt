@@ -1,5 +1,5 @@
 ghost use Rattle.std.specs.Prelude.{[], length, Ok};
-ghost use Rattle.protocol.specs.Calls.{Made, invoke as invocation, send as sends, retrieve_data as retrieves, retrieve_secret as reveals, terminate as terminates, release as releases};
+ghost use Rattle.protocol.specs.Calls.{MakesCall, invoke as invocation, send as sends, retrieve_data as retrieves, retrieve_secret as reveals, terminate as terminates, release as releases};
 ghost use Rattle.entity.specs.Views.{view};
 
 use super::Entity;
@@ -23,7 +23,7 @@ impl<S: Suite> Entity<S> {
         seed: &[u8],
         reply: &mut [u8],
     ) -> Result<Outcome, Refusal>
-        ensures { Made S.scheme (view S.meaning self.old) (invocation service pid seed.now (length reply.old)) (view S.meaning self.new) result reply.old reply.new }
+        ensures { MakesCall S.scheme (view S.meaning self.old) (invocation service pid seed.now (length reply.old)) (view S.meaning self.new) result reply.old reply.new }
     {
         has_room(reply)?;
         let seed = sixteen(seed)?;
@@ -39,7 +39,7 @@ impl<S: Suite> Entity<S> {
                 self.service = service;
                 self.role = Role::Sender;
                 self.seed = *seed;
-                Ok(Outcome::quiet(Confirmation::Nothing, length, 0))
+                Ok(Outcome::ongoing(Confirmation::Nothing, length, 0))
             }
             _ => Err(Refusal::WrongState),
         }
@@ -49,7 +49,7 @@ impl<S: Suite> Entity<S> {
     ///
     /// Refused: 1 (reply buffer below 255 bytes), 5 (not in Confirmed_SCH), 7 (length of the data), 8 (the number is the last).
     pub fn send(&mut self, plain: &[u8], reply: &mut [u8]) -> Result<Outcome, Refusal>
-        ensures { Made S.scheme (view S.meaning self.old) (sends plain.now (length reply.old)) (view S.meaning self.new) result reply.old reply.new }
+        ensures { MakesCall S.scheme (view S.meaning self.old) (sends plain.now (length reply.old)) (view S.meaning self.new) result reply.old reply.new }
     {
         has_room(reply)?;
         match self.state {
@@ -65,7 +65,7 @@ impl<S: Suite> Entity<S> {
                 let payload = self.seal(number, plain, &mut scratch);
                 let length = put(Service::Sch, Body::Enc(payload), reply);
                 self.number = number;
-                Ok(Outcome::quiet(Confirmation::DataSent, length, 0))
+                Ok(Outcome::ongoing(Confirmation::DataSent, length, 0))
             }
             _ => Err(Refusal::WrongState),
         }
@@ -75,7 +75,7 @@ impl<S: Suite> Entity<S> {
     ///
     /// Refused: 5 (not in Confirmed_SCH), 9 (nothing held), 10 (buffer below the data).
     pub fn retrieve_data(&mut self, out: &mut [u8]) -> Result<Outcome, Refusal>
-        ensures { Made S.scheme (view S.meaning self.old) (retrieves (length out.old)) (view S.meaning self.new) result out.old out.new }
+        ensures { MakesCall S.scheme (view S.meaning self.old) (retrieves (length out.old)) (view S.meaning self.new) result out.old out.new }
     {
         match self.state {
             State::ConfirmedSch => {
@@ -88,7 +88,7 @@ impl<S: Suite> Entity<S> {
                 }
                 let length = write_front(data, out);
                 self.held = Held::nothing();
-                Ok(Outcome::quiet(Confirmation::Nothing, length, 0))
+                Ok(Outcome::ongoing(Confirmation::Nothing, length, 0))
             }
             _ => Err(Refusal::WrongState),
         }
@@ -98,7 +98,7 @@ impl<S: Suite> Entity<S> {
     ///
     /// Refused: 5 (not in Confirmed_SSE), 10 (buffer below 16 bytes).
     pub fn retrieve_secret(&self, _slip: &Slip, out: &mut [u8]) -> Result<Outcome, Refusal>
-        ensures { Made S.scheme (view S.meaning self.now) (reveals (length out.old)) (view S.meaning self.now) result out.old out.new }
+        ensures { MakesCall S.scheme (view S.meaning self.now) (reveals (length out.old)) (view S.meaning self.now) result out.old out.new }
     {
         match self.state {
             State::ConfirmedSse => {
@@ -106,7 +106,7 @@ impl<S: Suite> Entity<S> {
                     return Err(Refusal::SmallBuffer);
                 }
                 let length = self.suite.reveal(self.secret, out).unwrap();
-                Ok(Outcome::quiet(Confirmation::Nothing, length, 0))
+                Ok(Outcome::ongoing(Confirmation::Nothing, length, 0))
             }
             _ => Err(Refusal::WrongState),
         }
@@ -116,7 +116,7 @@ impl<S: Suite> Entity<S> {
     ///
     /// Refused: 1 (reply buffer below 255 bytes), 5 (in neither Confirmed state).
     pub fn terminate(&mut self, reply: &mut [u8]) -> Result<Outcome, Refusal>
-        ensures { Made S.scheme (view S.meaning self.old) (terminates (length reply.old)) (view S.meaning self.new) result reply.old reply.new }
+        ensures { MakesCall S.scheme (view S.meaning self.old) (terminates (length reply.old)) (view S.meaning self.new) result reply.old reply.new }
     {
         has_room(reply)?;
         match self.state {
@@ -130,7 +130,7 @@ impl<S: Suite> Entity<S> {
 
     /// The link below is released: whatever runs, ends (confirmation 4; 0 if nothing ran).
     pub fn release(&mut self) -> Outcome
-        ensures { Made S.scheme (view S.meaning self.old) releases (view S.meaning self.new) (Ok result) [] [] }
+        ensures { MakesCall S.scheme (view S.meaning self.old) releases (view S.meaning self.new) (Ok result) [] [] }
     {
         let confirmation = match self.state {
             State::Idle => Confirmation::Nothing,

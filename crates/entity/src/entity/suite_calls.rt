@@ -2,11 +2,11 @@ ghost use Rattle.std.specs.Prelude.{◌≡◌, ◌<◌, ◌≤◌, true, length,
 ghost use Rattle.std.specs.Result.{result_map_both};
 ghost use Rattle.suite.specs.declared.types.KeyKind.TheVariants.{SharedSecret, LinkKey};
 ghost use Rattle.suite.specs.Meanings.{keyring_of, value_in};
-ghost use Rattle.suite.specs.Calls.{serial_answer, after_making};
+ghost use Rattle.suite.specs.Calls.{serial_result, after_making};
 ghost use Rattle.protocol.specs.Models.{has_secret, has_link};
 ghost use Rattle.protocol.specs.Steps.{agreement, derivation, check_value, sealed_record, opened_record};
 ghost use Rattle.entity.specs.Views.{view};
-ghost use Rattle.entity.specs.Results.{record_shown};
+ghost use Rattle.entity.specs.ResultViews.{record_result};
 
 use super::Entity;
 use protocol::SuiteFault;
@@ -55,7 +55,7 @@ impl<S: Suite> Entity<S> {
     ) -> Result<(u8, u32, usize), SuiteFault>
         requires state { has_link self.now.state ≡ true }
         requires payload { length payload.now ≤ 254 }
-        ensures record { record_shown result scratch.new ≡ opened_record S.scheme (view S.meaning self.now) payload.now }
+        ensures record { record_result result scratch.new ≡ opened_record S.scheme (view S.meaning self.now) payload.now }
         ensures fits { IfOk result (λ t. t.2 ≤ 255) }
     {
         self.suite
@@ -72,7 +72,7 @@ pub(super) fn agree<S: Suite>(
     offer: &[u8],
     role: Role,
 ) -> Result<u32, SuiteFault>
-    ensures answer { result ≡ serial_answer (S.meaning suite.old) (agreement S.scheme (S.meaning suite.old) seed.now offer.now role) }
+    ensures answer { result ≡ serial_result (S.meaning suite.old) (agreement S.scheme (S.meaning suite.old) seed.now offer.now role) }
     ensures after { S.meaning suite.new ≡ after_making (S.meaning suite.old) SharedSecret (agreement S.scheme (S.meaning suite.old) seed.now offer.now role) }
 {
     suite
@@ -86,7 +86,7 @@ pub(super) fn agree<S: Suite>(
 // Makes a link key of a live shared secret.
 pub(super) fn derive<S: Suite>(suite: &mut S, secret: u32) -> Result<u32, SuiteFault>
     requires { is_some (value_in (S.meaning suite.old).live SharedSecret secret) ≡ true }
-    ensures answer { result ≡ serial_answer (S.meaning suite.old) (derivation S.scheme (S.meaning suite.old) secret) }
+    ensures answer { result ≡ serial_result (S.meaning suite.old) (derivation S.scheme (S.meaning suite.old) secret) }
     ensures after { S.meaning suite.new ≡ after_making (S.meaning suite.old) LinkKey (derivation S.scheme (S.meaning suite.old) secret) }
 {
     suite.derive(secret).map_err(|_| SuiteFault::NoKey)

@@ -1,22 +1,22 @@
 ghost use Rattle.std.specs.Prelude.{◌≡◌, ◌≤◌, true, length, []};
 ghost use Rattle.std.specs.Str.{bytes_eq};
 ghost use Rattle.protocol.specs.Models.{has_secret};
-ghost use Rattle.protocol.specs.Steps.{HasEffect, verified, confirmed, on_vfy_req, on_vfy_res};
+ghost use Rattle.protocol.specs.Steps.{HasEffect, verification, service_start, on_vfy_req, on_vfy_res};
 ghost use Rattle.entity.specs.Views.{view};
-ghost use Rattle.entity.specs.Results.{made_for, model_after};
+ghost use Rattle.entity.specs.ResultViews.{serial_of_start, model_of_start};
 
 use super::Entity;
 use super::suite_calls::derive;
 use crate::bytes::put;
 use frame::{Body, Service};
-use protocol::{Confirmation, MachineFault, Outcome, State, SuiteFault, met_in};
+use protocol::{Confirmation, MachineFault, Outcome, State, SuiteFault, in_state};
 use suite::{Role, Suite};
 
 impl<S: Suite> Entity<S> {
     // Compares the peer's check value with that of its role.
     fn verify(&self, role: Role, payload: &[u8]) -> Result<(), SuiteFault>
         requires { has_secret self.now.state ≡ true }
-        ensures { result ≡ verified S.scheme (view S.meaning self.now) role payload.now }
+        ensures { result ≡ verification S.scheme (view S.meaning self.now) role payload.now }
     {
         let mut scratch = [0; 255];
         if payload == self.check_value(role, &mut scratch) {
@@ -29,8 +29,8 @@ impl<S: Suite> Entity<S> {
     // Puts the service into effect, and answers the serial of the key made for it: SSE needs none.
     fn confirm(&mut self) -> Result<u32, SuiteFault>
         requires { has_secret self.old.state ≡ true }
-        ensures model { view S.meaning self.new ≡ model_after (view S.meaning self.old) (confirmed S.scheme (view S.meaning self.old) self.old.service) }
-        ensures answer { result ≡ made_for (confirmed S.scheme (view S.meaning self.old) self.old.service) }
+        ensures model { view S.meaning self.new ≡ model_of_start (view S.meaning self.old) (service_start S.scheme (view S.meaning self.old) self.old.service) }
+        ensures answer { result ≡ serial_of_start (service_start S.scheme (view S.meaning self.old) self.old.service) }
     {
         match self.service {
             Service::Sse => {
@@ -57,12 +57,12 @@ impl<S: Suite> Entity<S> {
         ensures { HasEffect (view S.meaning self.old) (on_vfy_req S.scheme (view S.meaning self.old) payload.now) (view S.meaning self.new) result reply.old reply.new }
     {
         let state = self.state;
-        met_in(state, self.verify(Role::Sender, payload))?;
+        in_state(state, self.verify(Role::Sender, payload))?;
         let mut scratch = [0; 255];
         let own = self.check_value(Role::Recipient, &mut scratch);
-        let made = met_in(state, self.confirm())?;
+        let made = in_state(state, self.confirm())?;
         let length = put(self.service, Body::VfyRes(own), reply);
-        Ok(Outcome::quiet(Confirmation::Established, length, made))
+        Ok(Outcome::ongoing(Confirmation::Established, length, made))
     }
 
     // Established_Sender: the Sender compares.
@@ -71,8 +71,8 @@ impl<S: Suite> Entity<S> {
         ensures { HasEffect (view S.meaning self.old) (on_vfy_res S.scheme (view S.meaning self.old) payload.now) (view S.meaning self.new) result [] [] }
     {
         let state = self.state;
-        met_in(state, self.verify(Role::Recipient, payload))?;
-        let made = met_in(state, self.confirm())?;
-        Ok(Outcome::quiet(Confirmation::Established, 0, made))
+        in_state(state, self.verify(Role::Recipient, payload))?;
+        let made = in_state(state, self.confirm())?;
+        Ok(Outcome::ongoing(Confirmation::Established, 0, made))
     }
 }

@@ -1,7 +1,7 @@
 ghost use Rattle.std.specs.Prelude.{◌≡◌, not, [], Some, is_some};
 ghost use Rattle.std.specs.Option.{option_map};
 ghost use Rattle.suite.specs.Meanings.{value_in, is_live};
-ghost use Rattle.key_store.specs.Places.{labelled, key_in};
+ghost use Rattle.key_store.specs.Places.{labelled_key, key_in};
 
 use super::{Label, Place};
 
@@ -18,7 +18,7 @@ impl Place {
 
     // A place with a key.
     pub(crate) fn holding(label: Label, value: [u8; 16]) -> Place
-        ensures { key_in result ≡ labelled (Some label) value }
+        ensures { key_in result ≡ labelled_key (Some label) value }
     {
         Place {
             label: Some(label),

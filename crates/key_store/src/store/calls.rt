@@ -1,7 +1,7 @@
 ghost use Rattle.std.specs.Prelude.{◌≡◌, []};
 ghost use Rattle.std.specs.Option.{option_map};
-ghost use Rattle.suite.specs.Meanings.{value_in, is_live, without};
-ghost use Rattle.key_store.specs.Stores.{newest_of, keys_of, is_spent, put_answer, put_newest, put_keys, end_answer};
+ghost use Rattle.suite.specs.Meanings.{value_in, is_live, keys_without};
+ghost use Rattle.key_store.specs.Stores.{newest_of, keys_of, is_store_spent, put_result, put_newest, put_keys, end_result};
 
 use super::super::place::{Label, Place};
 use super::KeyStore;
@@ -38,14 +38,14 @@ impl KeyStore {
 
     // No further key: two are live, or the serials are used up.
     fn is_spent(&self) -> bool
-        ensures { result ≡ is_spent self.now }
+        ensures { result ≡ is_store_spent self.now }
     {
         !self.second.is_empty() || self.newest == u32::MAX
     }
 
     /// Keeps a new key, and answers its serial.
     pub fn put(&mut self, kind: KeyKind, value: &[u8; 16]) -> Result<u32, Denial>
-        ensures answer { result ≡ put_answer self.old }
+        ensures answer { result ≡ put_result self.old }
         ensures newest { newest_of self.new ≡ put_newest self.old }
         ensures live { keys_of self.new ≡ put_keys self.old kind value.now }
     {
@@ -67,7 +67,7 @@ impl KeyStore {
     pub fn remove(&mut self, serial: u32) -> bool
         ensures answer { result ≡ is_live (keys_of self.old) serial }
         ensures newest { newest_of self.new ≡ newest_of self.old }
-        ensures live { keys_of self.new ≡ without (keys_of self.old) serial }
+        ensures live { keys_of self.new ≡ keys_without (keys_of self.old) serial }
     {
         if self.first.is_live(serial) {
             self.first = mem::replace(&mut self.second, Place::empty());
@@ -90,7 +90,7 @@ impl KeyStore {
 
     /// Ends the store if no key is live; otherwise it comes back as it was.
     pub fn end(self) -> Result<(), KeyStore>
-        ensures { result ≡ end_answer self }
+        ensures { result ≡ end_result self }
     {
         if !self.first.is_empty() {
             return Err(self);

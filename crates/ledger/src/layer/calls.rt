@@ -2,8 +2,8 @@ ghost use Rattle.std.specs.Prelude.{◌≡◌, ◌+◌, ◌≤◌, min, [], leng
 ghost use Rattle.std.specs.List.{slice_get};
 ghost use Rattle.suite.specs.Meanings.{with_last};
 ghost use Rattle.suite.specs.Calls.{after_making, after_destroy};
-ghost use Rattle.quota.specs.AllowanceLaws.{limited-formed};
-ghost use Rattle.ledger.specs.Rows.{entered, struck_by, TrueOf, Told};
+ghost use Rattle.quota.specs.AllowanceProofs.{limited_meaning-formed};
+ghost use Rattle.ledger.specs.Rows.{rows_after_making, rows_after_destroying, IsTrueRow, TellsKeys};
 ghost use Rattle.ledger.specs.Ledgers.{ledger_meaning, rows_of};
 
 use super::Ledger;
@@ -38,7 +38,7 @@ impl<S: Suite> Ledger<S> {
     pub fn rows(&self) -> &[Row]
         ensures rows { result.now ≡ rows_of self.now }
         ensures count { self.now.below.left + length result.now ≡ 32 }
-        ensures told { Told (ledger_meaning S.meaning self.now) result.now }
+        ensures told { TellsKeys (ledger_meaning S.meaning self.now) result.now }
     {
         self.table.rows()
     }
@@ -46,7 +46,7 @@ impl<S: Suite> Ledger<S> {
     /// The row at a place, from 0 on; none at an unused place or past the table.
     pub fn row(&self, place: usize) -> Option<Row>
         ensures row { result ≡ slice_get (rows_of self.now) place }
-        ensures told { IfSome result (TrueOf (ledger_meaning S.meaning self.now).live) }
+        ensures told { IfSome result (IsTrueRow (ledger_meaning S.meaning self.now).live) }
         ensures past { 32 ≤ place → result ≡ None }
     {
         self.rows().get(place).copied()
@@ -61,11 +61,11 @@ impl<S: HasMeaning> HasMeaning for Ledger<S> {
 impl<S: Suite> Layer for Ledger<S> {
     type Below = S;
 
-    ghost made = { λ x kind value result y. (S.meaning y.below.below ≡ after_making (S.meaning x.below.below) kind value) × (rows_of y ≡ entered kind result (rows_of x)) };
+    ghost made = { λ x kind value result y. (S.meaning y.below.below ≡ after_making (S.meaning x.below.below) kind value) × (rows_of y ≡ rows_after_making kind result (rows_of x)) };
 
-    ghost destroyed = { λ x key result y. (S.meaning y.below.below ≡ after_destroy (S.meaning x.below.below) key) × (rows_of y ≡ struck_by key result (rows_of x)) };
+    ghost destroyed = { λ x key result y. (S.meaning y.below.below ≡ after_destroy (S.meaning x.below.below) key) × (rows_of y ≡ rows_after_destroying key result (rows_of x)) };
 
-    ghost formed = { λ x. limited-formed (S.meaning x.below.below) x.below.left (S.formed x.below.below) };
+    ghost formed = { λ x. limited_meaning-formed (S.meaning x.below.below) x.below.left (S.formed x.below.below) };
 
     fn below(&self) -> &S {
         self.below.below()

@@ -1,11 +1,11 @@
 ghost use Rattle.std.specs.Prelude.{◌≡◌, ◌≤◌, [], length};
-ghost use Rattle.replay.specs.Entries.{bytes_of};
+ghost use Rattle.replay.specs.Entries.{written_bytes};
 
 use super::Written;
 
 impl Written {
     pub(crate) fn nothing() -> Written
-        ensures { bytes_of result ≡ [] }
+        ensures { written_bytes result ≡ [] }
     {
         Written {
             bytes: [0; 255],
@@ -15,7 +15,7 @@ impl Written {
 
     pub(crate) fn new(written: &[u8]) -> Written
         requires { length written.now ≤ 255 }
-        ensures { bytes_of result ≡ written.now }
+        ensures { written_bytes result ≡ written.now }
     {
         let mut bytes = [0; 255];
         let length = written.len();
@@ -25,7 +25,7 @@ impl Written {
 
     /// The bytes that were written.
     pub fn bytes(&self) -> &[u8]
-        ensures { result.now ≡ bytes_of self.now }
+        ensures { result.now ≡ written_bytes self.now }
     {
         &self.bytes[..self.length]
     }

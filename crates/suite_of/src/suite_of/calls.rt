@@ -4,9 +4,9 @@ ghost use Rattle.suite.specs.Meanings.{value_in};
 ghost use Rattle.suite.proofs.ByteLaws.{bytes16_from};
 ghost use Rattle.key_store.proofs.StoreLaws.{kept_formed};
 ghost use Rattle.key_store.specs.Stores.{keys_of};
-ghost use Rattle.suite_of.specs.Kept.{meaning_of};
+ghost use Rattle.suite_of.specs.KindMeanings.{meaning_of};
 ghost use Rattle.suite_of.specs.Kinds.{scheme_of};
-ghost use Rattle.suite_of.specs.KindLaws.{lawful_of};
+ghost use Rattle.suite_of.specs.KindProofs.{lawful_scheme};
 
 use super::SuiteOf;
 use crate::bytes::write;
@@ -57,7 +57,7 @@ impl<K: Kind> HasMeaning for SuiteOf<K> {
 impl<K: Kind> Suite for SuiteOf<K> {
     ghost scheme = { scheme_of K.functions };
 
-    ghost lawful = { lawful_of K.functions K.sound };
+    ghost lawful = { lawful_scheme K.functions K.sound };
 
     ghost formed = { λ x. kept_formed x.root x.keys (bytes16_from x.root x.long x.bytes) };
 

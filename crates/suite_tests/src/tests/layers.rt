@@ -1,7 +1,7 @@
 // A ledger over the bench suite, and a quota over a ledger.
 ghost use Rattle.std.specs.Prelude.{IfSome};
 ghost use Rattle.ledger.specs.Ledgers.{ledger_meaning};
-ghost use Rattle.ledger.specs.Rows.{TrueOf};
+ghost use Rattle.ledger.specs.Rows.{IsTrueRow};
 
 use bench_suite::Bench;
 use ledger::{Ledger, Row, RowMark};
@@ -22,7 +22,7 @@ fn make_and_destroy<S: Suite>(suite: &mut S) {
 
 // Such code knows of no ledger, and yet what a row tells afterwards is so.
 fn row_after_use<S: Suite>(ledger: &mut Ledger<S>, place: usize) -> Option<Row>
-    ensures { IfSome result (TrueOf (ledger_meaning S.meaning ledger.new).live) }
+    ensures { IfSome result (IsTrueRow (ledger_meaning S.meaning ledger.new).live) }
 {
     make_and_destroy(ledger);
     ledger.row(place)

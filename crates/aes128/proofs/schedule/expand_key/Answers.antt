@@ -1,6 +1,6 @@
 use Rattle.std.proofs.Common.{◌≡◌, ℕ, ◌+◌, ◌*◌, List, [], ◌∷◌, get_or, refl, ap, ◌∙◌, subst, arith, length-set}
 use Rattle.aes128.specs.Cipher.{key_words, schedule}
-use Rattle.aes128.specs.Fours.{key_after, words_by}
+use Rattle.aes128.specs.Fours.{key_after, words_of_round_keys}
 use Rattle.aes128.proofs.KeySteps.{front, next_key, rcon_at}
 use Rattle.aes128.proofs.schedule.expand_key.Goals as goal
 
@@ -17,7 +17,7 @@ loop-i-preserved c =
     }
 
 pub returns : goal.returns
-unfolding words_by schedule
+unfolding words_of_round_keys schedule
 returns c =
     let i : c.loop-i.i ≡ 10 = omega arith in
     subst (λ (n : ℕ). front c.loop-i.keys (4 * n + 4) ≡ key_words c.args.key.now (4 * n)) i c.loop-i.invariant.words

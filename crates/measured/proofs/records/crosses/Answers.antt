@@ -1,8 +1,8 @@
 -- What the suite sealed lies in front of the buffer, and opens as itself.
 use Rattle.std.proofs.Common.{◌∙◌, replicate, lit≤}
 use Rattle.keyed_suite.specs.Keyed.{keyed_functions}
-use Rattle.keyed_suite.specs.KeyedLaws.{half-length}
-use Rattle.suite_of.specs.Kept.{meaning_of}
+use Rattle.keyed_suite.specs.KeyedProofs.{half-length}
+use Rattle.suite_of.specs.KindMeanings.{meaning_of}
 use Rattle.measured.proofs.Crossings.{returns_itself}
 use Rattle.measured.proofs.records.crosses.Goals as goal
 

@@ -1,13 +1,13 @@
 use Rattle.std.proofs.Common.{rules, ◌≡◌, ◌++◌, length, take, drop}
 use Rattle.promises.proofs.Whole.{promises_hold}
 use Rattle.exchanges.proofs.Whole.{undisturbed_succeeds}
-use Rattle.replay.specs.Replays.{Promised}
+use Rattle.replay.specs.Replays.{AllPromises}
 use Rattle.replay.proofs.Turns.{written_back}
 use Rattle.replay.proofs.Orders.{order_told}
 use Rattle.replay.proofs.again.replay.Given.{Over}
 use Rattle.replay.proofs.again.replay.Goals as goal
 
-all_hold : Promised
+all_hold : AllPromises
 all_hold = (promises_hold, undisturbed_succeeds)
 
 pub returns-in_err-first-clause-promised : goal.returns-in_err-first-clause-promised

@@ -1,8 +1,8 @@
 -- A frame that was read has at most 254 bytes after its SEP.
 use Rattle.std.proofs.Common.{sym}
-use Rattle.frame.specs.Frames.{parts}
+use Rattle.frame.specs.Frames.{parts_of}
 use Rattle.frame.proofs.Trips.{read_short}
 use Rattle.entity.proofs.entity.Entity.admit.Goals as goal
 
 pub returns-in-Ok-2-clause-short : goal.returns-in-Ok-2-clause-short
-returns-in-Ok-2-clause-short g c = read_short c.args.frame.now (parts c.in-Ok.message) (sym c.in-Ok.ensures.answer)
+returns-in-Ok-2-clause-short g c = read_short c.args.frame.now (parts_of c.in-Ok.message) (sym c.in-Ok.ensures.answer)

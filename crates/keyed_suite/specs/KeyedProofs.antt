@@ -6,18 +6,18 @@ use Rattle.aes128.specs.Cipher.{cipher_with, schedule}
 use Rattle.aes128.proofs.BlockBytes.{cipher-bytes, cipher-length}
 use Rattle.cmac.specs.Cmac.{cmac}
 use Rattle.cmac.proofs.TagBytes.{tag-bytes, tag-length}
-use Rattle.suite.specs.Meanings.{Bytes, Bytes16}
-use Rattle.suite_of.specs.Kinds.{Sound}
+use Rattle.suite.specs.Meanings.{IsBytes, IsBytes16}
+use Rattle.suite_of.specs.Kinds.{IsLawfulKind}
 use Rattle.keyed_suite.specs.Keyed.{keyed_functions}
 
-tag_is : (key text : List ℕ) → Bytes16 (cmac key text)
+tag_is : (key text : List ℕ) → IsBytes16 (cmac key text)
 tag_is key text = record { long = tag-length (schedule key) text; bytes = tag-bytes (schedule key) text }
 
 -- the first eight bytes of a tag
 pub half-length : (key text : List ℕ) → length (take 8 (cmac key text)) ≡ 8
 half-length key text = let long = tag-length (schedule key) text in simp length-take (omega arith)
 
-half-bytes : (key text : List ℕ) → Bytes (take 8 (cmac key text))
+half-bytes : (key text : List ℕ) → IsBytes (take 8 (cmac key text))
 half-bytes key text = All-take (λ b. b < 256) 8 (cmac key text) (tag-bytes (schedule key) text)
 
 -- a byte of a block of the keystream
@@ -27,8 +27,8 @@ stream-byte ws input i =
     let at : i % 16 < length (cipher_with ws input) = omega arith in
     All-get_or (λ b. b < 256) (cipher_with ws input) (i % 16) 0 at (cipher-bytes ws input)
 
-pub keyed_sound : Sound keyed_functions
-keyed_sound = record {
+pub keyed_lawful : IsLawfulKind keyed_functions
+keyed_lawful = record {
   pid_byte = lit< tt;
   check_bound = lit≤ tt;
   field_bound = lit≤ tt;

@@ -3,18 +3,18 @@ use Rattle.std.specs.Prelude.{◌≡◌, ℕ, ◌+◌, ◌≤◌, List, length}
 use Rattle.std.proofs.Common.{arith, lit≤}
 use Rattle.std.proofs.lemmas.Bool.{eq-eqb, eqb-true}
 use Rattle.suite.specs.declared.types.Role.TheVariants.{Sender, Recipient}
-use Rattle.suite.specs.Meanings.{Bytes, Bytes16, Keyring}
+use Rattle.suite.specs.Meanings.{IsBytes, IsBytes16, Keyring}
 use Rattle.suite.specs.Numbers.{role_byte}
-use Rattle.suite.specs.Schemes.{Lawful, Under}
-use Rattle.suite_of.specs.Kinds.{Functions, scheme_of, Sound}
-use Rattle.suite_of.specs.Payloads.{body_of, closed}
-use Rattle.suite_of.specs.PayloadLaws.{closed-length, closed-bytes, body-length, reads_back}
+use Rattle.suite.specs.Schemes.{IsLawful, IsUnder}
+use Rattle.suite_of.specs.Kinds.{KindFunctions, scheme_of, IsLawfulKind}
+use Rattle.suite_of.specs.Payloads.{payload_body, with_field}
+use Rattle.suite_of.specs.PayloadProofs.{closed-length, closed-bytes, body-length, reads_back}
 
-fit_is : (offer : List ℕ) → length offer ≡ 16 → Bytes offer → Bytes16 offer
+fit_is : (offer : List ℕ) → length offer ≡ 16 → IsBytes offer → IsBytes16 offer
 fit_is offer e o = record { long = e; bytes = o }
 
-pub lawful_of : (k : Functions) → Sound k → Lawful (scheme_of k)
-lawful_of k s =
+pub lawful_scheme : (k : KindFunctions) → IsLawfulKind k → IsLawful (scheme_of k)
+lawful_scheme k s =
     let check = s.check_bound in
     let field = s.field_bound in
     record {
@@ -34,23 +34,23 @@ lawful_of k s =
       fits = λ root keyring keyring' seed u u' e. eq-eqb (length seed) 16 e.long;
       agrees = λ root keyring keyring' j j' one other u u' w w' p q. equal_secrets root keyring keyring' one other u u' p q;
       opens = λ keyring keyring' value plain serial serial' role n f f' v ok can. reads_back k.field_length (k.field_of value) (k.stream_of value) role n plain (s.field_long value _ v) ok (most can.high);
-      seal_long = λ keyring value plain serial role n f v ok. sealed-length value role n plain v;
+      seal_long = λ keyring value plain serial role n f v ok. seal_result-length value role n plain v;
     }
   where
     most : {n : ℕ} → n ≤ k.final → n ≤ 16777215
     most h = let b = s.final_bound in omega arith
 
     -- the two peers' secrets, their suites under one root
-    equal_secrets : (root : List ℕ) (keyring keyring' : Keyring) (one other : List ℕ) → Under root keyring → Under root keyring' → Bytes16 one → Bytes16 other → k.secret_of keyring.root (role_byte Sender) one other ≡ k.secret_of keyring'.root (role_byte Recipient) other one
+    equal_secrets : (root : List ℕ) (keyring keyring' : Keyring) (one other : List ℕ) → IsUnder root keyring → IsUnder root keyring' → IsBytes16 one → IsBytes16 other → k.secret_of keyring.root (role_byte Sender) one other ≡ k.secret_of keyring'.root (role_byte Recipient) other one
     equal_secrets root keyring keyring' one other u u' p q =
         let e = s.agrees keyring.root one other u.formed.root p q in
         let same = u.same in
         let same' = u'.same in
         cc
 
-    sealed-length : (value : List ℕ) (role n : ℕ) (plain : List ℕ) → Bytes16 value → length (closed (k.field_of value) (body_of (k.stream_of value role n) role n plain)) ≡ length plain + (5 + k.field_length)
-    sealed-length value role n plain v =
-        let body = body_of (k.stream_of value role n) role n plain in
+    seal_result-length : (value : List ℕ) (role n : ℕ) (plain : List ℕ) → IsBytes16 value → length (with_field (k.field_of value) (payload_body (k.stream_of value role n) role n plain)) ≡ length plain + (5 + k.field_length)
+    seal_result-length value role n plain v =
+        let body = payload_body (k.stream_of value role n) role n plain in
         let c = closed-length (k.field_of value) k.field_length body (s.field_long value body v) in
         let b = body-length (k.stream_of value role n) role n plain in
         omega arith

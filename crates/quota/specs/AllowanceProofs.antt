@@ -1,11 +1,11 @@
 -- What a suite owes at every moment still holds under an allowance.
 use Rattle.std.specs.Prelude.{ℕ}
 use Rattle.std.proofs.Common.{arith}
-use Rattle.suite.specs.Meanings.{Meaning, WellFormed}
-use Rattle.quota.specs.Allowances.{limited}
+use Rattle.suite.specs.Meanings.{Meaning, IsWellFormed}
+use Rattle.quota.specs.Allowances.{limited_meaning}
 
-pub limited-formed : (m : Meaning) (k : ℕ) → WellFormed m → WellFormed (limited m k)
-limited-formed m k w =
+pub limited_meaning-formed : (m : Meaning) (k : ℕ) → IsWellFormed m → IsWellFormed (limited_meaning m k)
+limited_meaning-formed m k w =
     let low = w.last in
     let most = w.newest in
     record {
