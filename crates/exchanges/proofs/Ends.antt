@@ -44,7 +44,7 @@ talk_succeeds s law free x r transfers fit most =
 
 -- both are left as entering Idle leaves them
 record LeftIdle (d e : Peers) : Type 0 where
-  terminated_peers : IsTerminated e
+  terminated : IsTerminated e
   mine : e.one.model ≡ idle_model d.one.model
   theirs : e.other.model ≡ idle_model d.other.model
 
@@ -77,7 +77,7 @@ module _ (s : Scheme) (v : Service) (d : Peers) (mine : IsConfirmed v d.one.mode
 
   -- both enter Idle
   ended_by : LeftIdle d (after_calls ends ends')
-  ended_by = record { parted = record { mine = refl; theirs = refl; mine_idle = refl; theirs_idle = refl }; mine = refl; theirs = refl }
+  ended_by = record { terminated = record { mine = refl; theirs = refl; mine_idle = refl; theirs_idle = refl }; mine = refl; theirs = refl }
 
   -- so it is with the calls themselves
   left_idle : LeftIdle d (terminated_peers s d)
@@ -87,7 +87,7 @@ module _ (s : Scheme) (v : Service) (d : Peers) (mine : IsConfirmed v d.one.mode
       (subst (λ z. LeftIdle d (after_calls ends z)) (sym second) ended_by)
 
 pub parting_succeeds : TerminationSucceeds
-parting_succeeds s v d mine theirs = (left_idle s v d mine theirs).parted
+parting_succeeds s v d mine theirs = (left_idle s v d mine theirs).terminated
 
 -- with the same keys no key is left either
 clear_after : {m m' : Model} → SameKeys m m' → Clears m → Clears m'
@@ -104,9 +104,9 @@ ends_well s v d mine theirs mine_clear their_clear =
     let p = left_idle s v d mine theirs in
     let q = left_idle s v (swapped_peers d) theirs mine in
     record {
-      mine = p.parted;
+      mine = p.terminated;
       mine_gone = none_left p mine_clear their_clear;
-      theirs = q.parted;
+      theirs = q.terminated;
       theirs_gone = none_left q their_clear mine_clear;
     }
 

@@ -29,8 +29,8 @@ answered x = record { fit = λ e. (cc); known = λ e. (cc) }
 bad_offer : {A : Type 0} → IsWellAsked {A = A} (Err BadOffer)
 bad_offer = record { fit = λ e. (cc); known = λ e. (cc) }
 
-is_spent : {A : Type 0} → IsWellAsked {A = A} (Err Spent)
-is_spent = record { fit = λ e. (cc); known = λ e. (cc) }
+spent_asked : {A : Type 0} → IsWellAsked {A = A} (Err Spent)
+spent_asked = record { fit = λ e. (cc); known = λ e. (cc) }
 
 -- an answer that equals one which is no such denial
 same_as : {A : Type 0} {a b : Result A Denial} → a ≡ b → IsWellAsked b → IsWellAsked a
@@ -44,12 +44,12 @@ offer_asked s m seed room e h = same_as (offered_is s m seed room e h) (answered
 agreement_asked : (s : Scheme) (m : Meaning) (seed offer : List ℕ) (role : Role) → length seed ≡ 16 → IsWellAsked (agree_result s m seed offer (role_byte role))
 agreement_asked s m seed offer role e =
     same_as (agreed_is s m seed offer role e)
-    (both (not (s.fit_of (keyring_of m) offer)) IsWellAsked (λ _. bad_offer) (λ _. both (is_spent m) IsWellAsked (λ _. is_spent) (λ _. answered _)))
+    (both (not (s.fit_of (keyring_of m) offer)) IsWellAsked (λ _. bad_offer) (λ _. both (is_spent m) IsWellAsked (λ _. spent_asked) (λ _. answered _)))
 
 secret_serves : (s : Scheme) (m : Meaning) (key : ℕ) → is_some (value_in m.live SharedSecret key) ≡ true → ServesAsSecret s m key
 secret_serves s m key live = record {
   check = λ role room h. same_as (checked_is s m key role room h live) (answered _);
-  link = same_as (derived_is s m key live) (both (is_spent m) IsWellAsked (λ _. is_spent) (λ _. answered _));
+  link = same_as (derived_is s m key live) (both (is_spent m) IsWellAsked (λ _. spent_asked) (λ _. answered _));
   value = λ room h. same_as (revealed_is m key room h live) (answered _);
 }
 

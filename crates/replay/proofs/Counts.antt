@@ -1,12 +1,12 @@
 -- The entries that tell a record handed are as many as the records told so.
 use Rattle.std.proofs.Common.{◌≡◌, suc, true, false, cond, List, [], ◌∷◌, ◌++◌, length, filter, Some, None, Option, refl, ap}
-use Rattle.histories.specs.Records.{SessionRecord}
+use Rattle.histories.specs.Records as r
 use Rattle.replay.specs.declared.entry.SessionRecord.{SessionRecord}
 use Rattle.replay.specs.declared.entry.Entry.{Entry}
 use Rattle.replay.specs.Entries.{transcript_records, records_of, direction_of, is_handed, handed_count, is_hand_over}
 
 -- one entry more
-one_more : (x : Option SessionRecord) (e : Entry) (es : List Entry) (told : List SessionRecord) → length es ≡ length (filter (λ c. is_handed c.direction) told)
+one_more : (x : Option SessionRecord) (e : Entry) (es : List Entry) (told : List r.SessionRecord) → length es ≡ length (filter (λ c. is_handed c.direction) told)
     → length (cond (is_hand_over x) (e ∷ es) es) ≡ length (filter (λ c. is_handed c.direction) (records_of x ++ told))
 one_more None e es told same = same
 one_more (Some x) e es told same =

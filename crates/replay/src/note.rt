@@ -57,7 +57,7 @@ pub(crate) fn note(
     written: Written,
 ) -> Entry
     requires { FitsSend (logged_call logged.now) answer }
-    ensures history_entry { history_entry (logged_call logged.now) result ≡ record { call = logged_call logged.now; answer = answer; written = written_bytes written } }
+    ensures told { history_entry (logged_call logged.now) result ≡ record { call = logged_call logged.now; answer = answer; written = written_bytes written } }
     ensures record { records_of result.record ≡ records_in session (history_entry (logged_call logged.now) result) }
 {
     Entry {
