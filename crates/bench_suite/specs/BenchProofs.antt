@@ -1,4 +1,4 @@
--- The bench suite is a sound kind.
+-- Proofs, which need not be read: the bench suite keeps the laws of a kind.
 use Rattle.std.specs.Prelude.{◌≡◌, ℕ, suc, ◌%◌, ◌<◌, List, ◌∷◌, length, take, bit_xor, slice_index, refl}
 use Rattle.std.proofs.Common.{sym, ap, ◌∙◌, arith, length-take, lit<, lit≤}
 use Rattle.std.proofs.lemmas.List.{length-map}

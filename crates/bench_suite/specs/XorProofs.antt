@@ -1,4 +1,4 @@
--- Bytes XOR bytes.
+-- Proofs, which need not be read: bytes XOR bytes.
 use Rattle.std.specs.Prelude.{◌≡◌, ℕ, suc, List, [], ◌∷◌, length, refl}
 use Rattle.std.proofs.Common.{sym, ap, arith}
 use Rattle.std.proofs.lemmas.Nat.{xor_comm, xor_lt}

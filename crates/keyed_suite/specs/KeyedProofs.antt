@@ -1,4 +1,4 @@
--- The keyed suite is a sound kind.
+-- Proofs, which need not be read: the keyed suite keeps the laws of a kind.
 use Rattle.std.specs.Prelude.{◌≡◌, ℕ, ◌%◌, ◌<◌, List, length, take, slice_index, refl}
 use Rattle.std.proofs.Common.{arith, length-take, lit<, lit≤}
 use Rattle.std.proofs.ByRecursion.{All-take, All-get_or}

@@ -1,4 +1,4 @@
--- That rows tell of keys has one proof at most, so it can be an invariant of a type.
+-- Proofs, which need not be read: that rows tell of keys has one proof at most, as an invariant of a type has to.
 use Rattle.std.specs.Prelude.{ℕ, ◌+◌, ◌-◌, List, [], ◌∷◌, length}
 use Rattle.std.specs.List.{AllByRecursion-prop}
 use Rattle.std.specs.Coded.{×_prop, Unit-prop, le_prop}

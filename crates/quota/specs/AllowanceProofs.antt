@@ -1,4 +1,4 @@
--- What a suite owes at every moment still holds under an allowance.
+-- Proofs, which need not be read: a meaning under an allowance is well formed.
 use Rattle.std.specs.Prelude.{ℕ}
 use Rattle.std.proofs.Common.{arith}
 use Rattle.suite.specs.Meanings.{Meaning, IsWellFormed}

@@ -1,4 +1,4 @@
--- A suite of a sound kind keeps the laws.
+-- Proofs, which need not be read: a suite of a lawful kind keeps the laws of suites.
 use Rattle.std.specs.Prelude.{◌≡◌, ℕ, ◌+◌, ◌≤◌, List, length}
 use Rattle.std.proofs.Common.{arith, lit≤}
 use Rattle.std.proofs.lemmas.Bool.{eq-eqb, eqb-true}

@@ -1,4 +1,4 @@
--- Payloads: how long they are, that they are bytes, and that one that was written is read back.
+-- Proofs, which need not be read: the length and the bytes of payloads, and that one that was written is read back.
 use Rattle.std.specs.Prelude.{◌≡◌, ℕ, ◌+◌, ◌-◌, ◌*◌, ◌/◌, ◌%◌, ◌<◌, ◌≤◌, true, ◌&&◌, List, length, drop, Some, None, Option, nat_le, slice_index}
 use Rattle.std.specs.Option.{option_map}
 use Rattle.std.specs.Str.{bytes_eq}

@@ -1,4 +1,4 @@
--- Data XOR a stream: length, places, bytes, and what a second XOR undoes.
+-- Proofs, which need not be read: data XOR a stream: length, places, bytes, and that a second XOR undoes the first.
 use Rattle.std.specs.Prelude.{◌≡◌, ℕ, zero, suc, ◌+◌, ◌<◌, List, [], ◌∷◌, length, bit_xor, slice_index, refl}
 use Rattle.std.proofs.Common.{ap, ◌∙◌, arith, add-zero}
 use Rattle.std.specs.Int.Bits.{xor_assoc, xor_self, xor_zero_r}
