@@ -60,7 +60,7 @@ abbrev pub IsTrueRow : List Key → Row → Type 0
 IsTrueRow keys r = MarkHolds r.mark keys r.kind r.serial
 
 -- The rows of a ledger, by what it means: one for each of the keys made last, in the order made. A row is marked live
--- just where its key is, and has its kind then.
+-- exactly where its key is live, and has its kind then.
 pub record TellsKeys (m : Meaning) (rows : List Row) : Type 0 where
   pub count : length rows ≤ m.newest
   pub order : HasSerialsFrom (m.newest - length rows + 1) rows

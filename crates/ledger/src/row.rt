@@ -5,10 +5,12 @@ ghost use Rattle.ledger.specs.Words.{mark_text};
 use std::fmt;
 use suite::KeyKind;
 
-/// What became of a key.
+/// What became of a key that was made through a ledger.
 #[derive(Clone, Copy, Debug, PartialEq, Eq)]
 pub enum RowMark {
+    /// 1: the key is live in the suite.
     Live = 1,
+    /// 2: the key is not live any more.
     Destroyed = 2,
 }
 
@@ -35,12 +37,15 @@ impl fmt::Display for RowMark {
 /// One key that was made through a ledger.
 #[derive(Clone, Copy, Debug, PartialEq, Eq)]
 pub struct Row {
+    /// The serial that the suite gave the key, from 1 on.
     pub serial: u32,
+    /// Whether it is a shared secret or a link key.
     pub kind: KeyKind,
+    /// Whether it is still live.
     pub mark: RowMark,
 }
 
-// What lies at a place of a table that is not used: `ArrayVec` asks for a default.
+// What lies at an unused place of a table, since `ArrayVec` asks for a default. No key has serial 0.
 impl Default for Row {
     ghost is_default = { λ row. row ≡ unused_row };
 

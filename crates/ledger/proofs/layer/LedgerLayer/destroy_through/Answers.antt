@@ -1,7 +1,7 @@
 -- The rows still tell of the keys, whose serials are apart.
 use Rattle.std.proofs.Common.{rules, refl}
 use Rattle.ledger.proofs.RowLaws.{struck_kept}
-use Rattle.ledger.proofs.layer.calls.LedgerLayer.destroy_through.Goals as goal
+use Rattle.ledger.proofs.layer.LedgerLayer.destroy_through.Goals as goal
 
 -- where the quota below denies the call, no key is destroyed
 pub invariant_of-self : goal.invariant_of-self
