@@ -1,10 +1,8 @@
-ghost use Rattle.std.specs.Prelude.{◌≤◌};
+ghost use Rattle.std.specs.Prelude.{◌≡◌, ◌≤◌, [], length};
 
 use protocol::{Outcome, Refusal};
 
-mod bytes;
-
-/// What a call wrote to the front of its buffer.
+/// The bytes that a call wrote to the front of its buffer, or the data of a record: at most 255.
 #[derive(Clone, Copy)]
 pub struct Written {
     bytes: [u8; 255],
@@ -12,25 +10,63 @@ pub struct Written {
     ghost fits: { length ≤ 255 },
 }
 
-/// What became of the data of a record.
+impl Written {
+    ghost use Rattle.replay.specs.Entries.{written_bytes};
+
+    pub(crate) fn nothing() -> Written
+        ensures { written_bytes result ≡ [] }
+    {
+        Written {
+            bytes: [0; 255],
+            length: 0,
+        }
+    }
+
+    pub(crate) fn new(written: &[u8]) -> Written
+        requires { length written.now ≤ 255 }
+        ensures { written_bytes result ≡ written.now }
+    {
+        let mut bytes = [0; 255];
+        let length = written.len();
+        bytes[..length].copy_from_slice(written);
+        Written { bytes, length }
+    }
+
+    /// The bytes that were written, and no others.
+    pub fn bytes(&self) -> &[u8]
+        ensures { result.now ≡ written_bytes self.now }
+    {
+        &self.bytes[..self.length]
+    }
+}
+
+/// Which way the data of a record went.
 #[derive(Clone, Copy, Debug, PartialEq, Eq)]
 pub enum Direction {
+    /// The user of the end sent it.
     Sent,
+    /// The user of the end was handed it.
     Handed,
 }
 
-/// A record that the user of an end sent, or was handed, in the session of that link key.
+/// A record that the user of an end sent or was handed in one of its link sessions.
 #[derive(Clone, Copy)]
 pub struct SessionRecord {
+    /// The serial of the session's link key at that end; 0 where the log begins in mid-session.
     pub session: u32,
     pub direction: Direction,
+    /// The record's data, 1 to 200 bytes.
     pub plain: Written,
 }
 
-/// What a call answered and wrote, and the record that it sent or handed out.
+/// What one call of a log returned and wrote, and the record that it sent or handed over.
 #[derive(Clone, Copy)]
 pub struct Entry {
+    /// The outcome, or the refusal with its number, 1 to 10.
     pub answer: Result<Outcome, Refusal>,
+    /// A frame to the peer, or what was retrieved; no byte if the call was refused.
     pub written: Written,
+    /// The record sent or handed over by this call, if there is one. Records are counted by this alone: the data that is handed over
+    /// stands in `written` too.
     pub record: Option<SessionRecord>,
 }
