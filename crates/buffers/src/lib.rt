@@ -1,3 +1,6 @@
-// What calls write into buffers that their callers lend: definitions and laws that other crates cite.
-// It has no code.
+// What calls write into buffers that their callers lend: how much at most, and definitions and laws that other crates cite.
 #![tactic(auto)]
+
+mod limits;
+
+pub use limits::{MAX_FRAME, MAX_PAYLOAD};

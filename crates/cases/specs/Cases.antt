@@ -1,5 +1,6 @@
 -- Two entities over bench suites, call by call.
 use Rattle.std.specs.Prelude.{◌≡◌, ℕ, List, [], ◌∷◌, replicate, Some, None, Ok, Err, Option, Result}
+use Rattle.buffers.specs.declared.limits.TheConstants.{MAX_FRAME}
 use Rattle.frame.specs.declared.types.Service.TheVariants.{Sch}
 use Rattle.frame.specs.declared.faults.FaultCode.{FaultCode}
 use Rattle.bench_suite.specs.Benches.{bench_scheme}
@@ -62,15 +63,15 @@ beside seed = record { seed = seed }
 
 -- a frame, with a seed of zeros
 abbrev pub after_frame : Model → List ℕ → CallEffect
-after_frame m bytes = call m (frame bytes (beside no_seed) 255)
+after_frame m bytes = call m (frame bytes (beside no_seed) MAX_FRAME)
 
 -- An activation for SCH, call by call: the Sender's and the Recipient's.
 
 abbrev pub act_req : CallEffect
-act_req = call new (invoke Sch 0xF0 ones 255)
+act_req = call new (invoke Sch 0xF0 ones MAX_FRAME)
 
 abbrev pub act_res : CallEffect
-act_res = call new (frame act_req.reply (beside twos) 255)
+act_res = call new (frame act_req.reply (beside twos) MAX_FRAME)
 
 abbrev pub vfy_req : CallEffect
 vfy_req = after_frame act_req.model act_res.reply
@@ -84,7 +85,7 @@ sender_confirmed = after_frame vfy_req.model vfy_res.reply
 -- Records: the Sender's first, the same frame before and after its data are retrieved, and the Recipient's answer.
 
 abbrev pub sent : CallEffect
-sent = call sender_confirmed.model (send (0x41 ∷ 0x42 ∷ []) 255)
+sent = call sender_confirmed.model (send (0x41 ∷ 0x42 ∷ []) MAX_FRAME)
 
 abbrev pub received : CallEffect
 received = after_frame vfy_res.model sent.reply
@@ -93,22 +94,22 @@ abbrev pub repeated : CallEffect
 repeated = after_frame received.model sent.reply
 
 abbrev pub retrieved : CallEffect
-retrieved = call received.model (retrieve_data 255)
+retrieved = call received.model (retrieve_data MAX_FRAME)
 
 abbrev pub dropped : CallEffect
 dropped = after_frame retrieved.model sent.reply
 
 abbrev pub answered : CallEffect
-answered = call dropped.model (send (0x43 ∷ []) 255)
+answered = call dropped.model (send (0x43 ∷ []) MAX_FRAME)
 
 -- a record sent where the newest has this number
 abbrev pub sent_at : ℕ → CallEffect
-sent_at number = call (record sender_confirmed.model { number = number }) (send (0x41 ∷ []) 255)
+sent_at number = call (record sender_confirmed.model { number = number }) (send (0x41 ∷ []) MAX_FRAME)
 
 -- A Recipient whose suite makes one key, and so no link key.
 
 abbrev pub recipient_of_one_key : CallEffect
-recipient_of_one_key = call (entity 1) (frame act_req.reply (beside twos) 255)
+recipient_of_one_key = call (entity 1) (frame act_req.reply (beside twos) MAX_FRAME)
 
 abbrev pub keyless : CallEffect
 keyless = after_frame recipient_of_one_key.model vfy_req.reply

@@ -7,7 +7,8 @@ ghost use Rattle.suite.specs.Calls.{is_short_buffer, is_wrong_seed};
 ghost use Rattle.protocol.specs.declared.refusals.Refusal.TheVariants.{ReplyBuffer, SeedLength};
 ghost use Rattle.protocol.specs.Steps.{frame_bytes};
 
-use frame::{Body, MAX_FRAME, Message, Service, write};
+use buffers::MAX_FRAME;
+use frame::{Body, Message, Service, write};
 use protocol::Refusal;
 
 // A reply buffer takes any frame.
@@ -38,19 +39,19 @@ pub(crate) fn write_front(bytes: &[u8], out: &mut [u8]) -> usize
 
 // Writes a message to the front of a buffer that takes any frame, and answers its length.
 pub(crate) fn put(service: Service, body: Body<'_>, reply: &mut [u8]) -> usize
-    requires room { 255 ≤ length reply.old }
-    requires short { length (frame_bytes service (contents_of body)) ≤ 255 }
+    requires room { MAX_FRAME ≤ length reply.old }
+    requires short { length (frame_bytes service (contents_of body)) ≤ MAX_FRAME }
     requires plain { is_tmn_with_payload (contents_of body) ≡ false }
     ensures answer { result ≡ length (frame_bytes service (contents_of body.entry)) }
-    ensures within { result ≤ 255 }
+    ensures within { result ≤ MAX_FRAME }
     ensures buffer { reply.new ≡ with_front (frame_bytes service (contents_of body.entry)) reply.old }
 {
     write(&Message { service, body }, reply).unwrap()
 }
 
 // Zeros, over bytes in which data lay.
-pub(crate) fn wipe(scratch: &mut [u8; 255])
-    ensures { scratch.new ≡ replicate 255 0 }
+pub(crate) fn wipe(scratch: &mut [u8; MAX_FRAME])
+    ensures { scratch.new ≡ replicate MAX_FRAME 0 }
 {
     scratch.fill(0);
 }

@@ -1,12 +1,14 @@
 ghost use Rattle.std.specs.Prelude.{◌≡◌, ℕ, ◌-◌, ◌≤◌, ◌==◌, List, [], length, take, drop, replicate};
+ghost use Rattle.suite.specs.declared.limits.TheConstants.{MAX_DATA};
 
 use crate::bytes::write_front;
 use std::marker::Model;
+use suite::MAX_DATA;
 
 /// Data that waits for its user. Past the data the place has zeros, so a place without data is all zeros.
 #[derive(Drop)]
 pub struct Held {
-    place: [u8; 200],
+    place: [u8; MAX_DATA],
     filled: usize,
 }
 
@@ -15,7 +17,7 @@ impl Model for Held {
 
     ghost view = { λ h. take h.filled h.place };
 
-    ghost invariant = { λ h. (length h.place ≡ 200) × (h.filled ≤ 200) × (drop h.filled h.place ≡ replicate (200 - h.filled) 0) };
+    ghost invariant = { λ h. (length h.place ≡ MAX_DATA) × (h.filled ≤ MAX_DATA) × (drop h.filled h.place ≡ replicate (MAX_DATA - h.filled) 0) };
 }
 
 impl Held {
@@ -23,17 +25,17 @@ impl Held {
         ensures { result ≡ [] }
     {
         Held {
-            place: [0; 200],
+            place: [0; MAX_DATA],
             filled: 0,
         }
     }
 
     #[tactic(auto, using(crate::proofs::Padding::padded))]
     pub(crate) fn new(plain: &[u8]) -> Held
-        requires { length plain.now ≤ 200 }
+        requires { length plain.now ≤ MAX_DATA }
         ensures { result ≡ plain.now }
     {
-        let mut place = [0; 200];
+        let mut place = [0; MAX_DATA];
         let filled = write_front(plain, &mut place);
         Held { place, filled }
     }
@@ -46,7 +48,7 @@ impl Held {
 
     pub(crate) fn bytes(&self) -> &[u8]
         ensures bytes { result.now ≡ self.now }
-        ensures short { length result.now ≤ 200 }
+        ensures short { length result.now ≤ MAX_DATA }
     {
         &self.place[..self.filled]
     }

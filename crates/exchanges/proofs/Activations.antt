@@ -2,9 +2,11 @@
 use Rattle.std.proofs.Common.{◌≡◌, ℕ, ◌+◌, ◌<◌, ◌≤◌, true, false, eqb, ltb, List, [], ◌∷◌, length, sym, refl, ap, ◌∙◌, subst, arith, lit<, lit≤}
 use Rattle.std.specs.List.{AllByRecursion}
 use Rattle.std.proofs.lemmas.Bool.{le-ltb, eq-eqb, ne_eqb}
+use Rattle.buffers.specs.declared.limits.TheConstants.{MAX_FRAME}
 use Rattle.frame.specs.declared.types.Service.{Service}
 use Rattle.frame.specs.declared.types.Service.TheVariants.{Sse, Sch}
 use Rattle.frame.specs.Frames.{Contents, bytes_after_sep, act_req, act_res, vfy_req, vfy_res}
+use Rattle.suite.specs.declared.limits.TheConstants.{MAX_DATA}
 use Rattle.suite.specs.declared.types.Role.TheVariants.{Sender, Recipient}
 use Rattle.suite.specs.Meanings.{Meaning, Keyring, keyring_of, IsBytes, IsBytes16, IsWellFormed}
 use Rattle.suite.specs.Schemes.{Scheme, IsUnder, IsLawful, is_role}
@@ -92,7 +94,7 @@ pub record Told (s : Scheme) (room : ℕ) (d : Peers) : Type 0 where
 
 -- there is room, and seeds are as long as they are to be
 
-wide : (u : Supply) (k : ℕ) → ltb (u.room k) 255 ≡ false
+wide : (u : Supply) (k : ℕ) → ltb (u.room k) MAX_FRAME ≡ false
 wide u k = room_enough (u.room k) (u.rooms k)
 
 sixteen : {xs : List ℕ} → IsBytes16 xs → eqb (length xs) 16 ≡ true
@@ -176,8 +178,8 @@ module _ (s : Scheme) (law : IsLawful s) (free : DependsOnRootAndValue s) (root 
 
   -- nothing is too long
 
-  fits : (v : Service) (contents : Contents) → length (bytes_after_sep contents) ≤ 65 → ltb 255 (length (frame_bytes v contents)) ≡ false
-  fits v contents h = le-ltb 255 (length (frame_bytes v contents)) (omega arith)
+  fits : (v : Service) (contents : Contents) → length (bytes_after_sep contents) ≤ 65 → ltb MAX_FRAME (length (frame_bytes v contents)) ≡ false
+  fits v contents h = le-ltb MAX_FRAME (length (frame_bytes v contents)) (omega arith)
 
   offer_most : (k : Keyring) (own : List ℕ) → IsUnder root k → IsBytes16 own → length (s.offer_of k own) ≤ 64
   offer_most k own u h = let long = law.offer_long k own u.formed h in let bound = law.offer_bound in omega arith
@@ -246,10 +248,10 @@ module _ (s : Scheme) (law : IsLawful s) (free : DependsOnRootAndValue s) (root 
       let act_req_sent : List ℕ → CallEffect = λ z. stepped (sharing root last (n + 1) z EstablishedSender v Sender seed) conf.Nothing (n + 1) (frame_bytes v (vfy_req (s.check_of (ring z) (n + 1) z 1))) in
       check_is s root last n (u.room 1) (wide u 1) v reply seed (u.beside 1) (sixteen (u.seeds 1)) short fit (left n last h) ∙ ap act_req_sent agreed
 
-  asked_fits : (v : Service) → ltb 255 (length (frame_bytes v (vfy_req asked))) ≡ false
+  asked_fits : (v : Service) → ltb MAX_FRAME (length (frame_bytes v (vfy_req asked))) ≡ false
   asked_fits v = fits v (vfy_req asked) (check_most mine_ring (n + 1) 1 mine_under refl)
 
-  replied_fits : (v : Service) → ltb 255 (length (frame_bytes v (vfy_res replied))) ≡ false
+  replied_fits : (v : Service) → ltb MAX_FRAME (length (frame_bytes v (vfy_res replied))) ≡ false
   replied_fits v = fits v (vfy_res replied) (check_most their_ring (n' + 1) 2 their_under refl)
 
   -- the last two for SCH
@@ -437,8 +439,8 @@ two_left = bare no_seed 2 0
 abbrev zeros_brought : Supply
 zeros_brought = record {
   beside = λ k. record { seed = no_seed };
-  room = λ k. 255;
-  out = λ k. 200;
+  room = λ k. MAX_FRAME;
+  out = λ k. MAX_DATA;
   seeds = λ k. zeros_are;
   rooms = λ k. lit≤ tt;
   outs = λ k. lit≤ tt;

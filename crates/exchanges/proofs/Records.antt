@@ -1,5 +1,6 @@
 -- A record that is sent in one of two matched link sessions is handed out in the other.
 use Rattle.std.proofs.Common.{◌≡◌, ℕ, suc, ◌+◌, ◌<◌, ◌≤◌, true, false, eqb, List, [], ◌∷◌, ◌++◌, length, Some, sym, refl, ap, ◌∙◌, subst, inl, append_assoc, append-nil, arith, lit<}
+use Rattle.buffers.specs.declared.limits.TheConstants.{MAX_PAYLOAD}
 use Rattle.frame.specs.declared.types.Service.TheVariants.{Sch}
 use Rattle.frame.specs.Frames.{enc}
 use Rattle.suite.specs.declared.types.Role.{Role}
@@ -115,7 +116,7 @@ module _ (s : Scheme) (law : IsLawful s) (value : List ℕ) (number : ℕ) (d : 
   size : length payload ≡ length plain + s.overhead
   size = law.seal_long mine_ring value plain sender.link role (sender.number + 1) M.mine.formed.keyring value16 (role_ok sender.role)
 
-  short : length payload ≤ 254
+  short : length payload ≤ MAX_PAYLOAD
   short = let most = fit.most in let over = law.overhead_bound in omega (arith, size)
 
   sealed_bytes : IsBytes payload

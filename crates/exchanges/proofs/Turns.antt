@@ -3,9 +3,11 @@ use Rattle.std.proofs.Common.{◌≡◌, ℕ, ◌+◌, ◌<◌, ◌≤◌, true,
 use Rattle.std.specs.Str.{bytes_eq}
 use Rattle.std.proofs.lemmas.Bool.{le-ltb, lt-leb, eq-eqb, ne_eqb}
 use Rattle.std.proofs.lemmas.Slice.Eq.{bytes_eq-Decides}
+use Rattle.buffers.specs.declared.limits.TheConstants.{MAX_FRAME, MAX_PAYLOAD}
 use Rattle.frame.specs.declared.types.Service.{Service}
 use Rattle.frame.specs.declared.types.Service.TheVariants.{Sse, Sch}
 use Rattle.frame.specs.Frames.{act_req, act_res, vfy_req, vfy_res, enc, tmn}
+use Rattle.suite.specs.declared.limits.TheConstants.{MAX_DATA}
 use Rattle.suite.specs.declared.types.Role.{Role}
 use Rattle.suite.specs.declared.types.Role.TheVariants.{Sender, Recipient}
 use Rattle.suite.specs.declared.types.KeyKind.TheVariants.{LinkKey}
@@ -35,7 +37,7 @@ same_bytes p = (bytes_eq-Decides p p).1 refl
 
 -- Activations. The facts of each call: room for the reply, lengths, an offer that is fit, and a serial that is left.
 
-module _ (s : Scheme) (root : List ℕ) (last n room : ℕ) (wide : ltb room 255 ≡ false) where
+module _ (s : Scheme) (root : List ℕ) (last n room : ℕ) (wide : ltb room MAX_FRAME ≡ false) where
   -- INVOKE
   pub ask_is : (v : Service) (seed : List ℕ) → eqb (length seed) 16 ≡ true
       → call_effect s (new_model (bare root last n)) (invoke v s.pid seed room)
@@ -51,7 +53,7 @@ module _ (s : Scheme) (root : List ℕ) (last n room : ℕ) (wide : ltb room 255
 
   -- ACT_REQ
   pub reply_is : (v : Service) (offer : List ℕ) (answering : Ancillary) → eqb (length answering.seed) 16 ≡ true
-      → ltb 255 (length (frame_bytes v (act_req s.pid offer))) ≡ false → s.fit_of (keyring_of (bare root last n)) offer ≡ true → eqb n last ≡ false
+      → ltb MAX_FRAME (length (frame_bytes v (act_req s.pid offer))) ≡ false → s.fit_of (keyring_of (bare root last n)) offer ≡ true → eqb n last ≡ false
       → let value = s.secret_of (keyring_of (bare root last n)) 2 answering.seed offer in
       call_effect s (new_model (bare root last n)) (frame (frame_bytes v (act_req s.pid offer)) answering room)
       ≡ stepped (agreeing v value) conf.Nothing (n + 1) (frame_bytes v (act_res (s.offer_of (keyring_of (agreed_suite root last (n + 1) value)) answering.seed)))
@@ -65,7 +67,7 @@ module _ (s : Scheme) (root : List ℕ) (last n room : ℕ) (wide : ltb room 255
 
   -- ACT_RES
   pub check_is : (v : Service) (offer seed : List ℕ) (beside : Ancillary) → eqb (length beside.seed) 16 ≡ true
-      → ltb 255 (length (frame_bytes v (act_res offer))) ≡ false → s.fit_of (keyring_of (bare root last n)) offer ≡ true → eqb n last ≡ false
+      → ltb MAX_FRAME (length (frame_bytes v (act_res offer))) ≡ false → s.fit_of (keyring_of (bare root last n)) offer ≡ true → eqb n last ≡ false
       → let value = s.secret_of (keyring_of (bare root last n)) 1 seed offer in
       call_effect s (selecting (bare root last n) v seed) (frame (frame_bytes v (act_res offer)) beside room)
       ≡ stepped (asking v seed value) conf.Nothing (n + 1) (frame_bytes v (vfy_req (s.check_of (keyring_of (agreed_suite root last (n + 1) value)) (n + 1) value 1)))
@@ -73,7 +75,7 @@ module _ (s : Scheme) (root : List ℕ) (last n room : ℕ) (wide : ltb room 255
   check_is Sch offer seed beside long short fit left = let own = asks_by Sch seed (s.secret_of (keyring_of (bare root last n)) 1 seed offer) in rw (wide, long, short, fit, left, own)
 
 -- with a shared secret, and the check values of the Sender and of the Recipient
-module _ (s : Scheme) (root : List ℕ) (last n room : ℕ) (wide : ltb room 255 ≡ false)
+module _ (s : Scheme) (root : List ℕ) (last n room : ℕ) (wide : ltb room MAX_FRAME ≡ false)
     (value : List ℕ) (beside : Ancillary) (long : eqb (length beside.seed) 16 ≡ true) (asked replied : List ℕ)
     (senders : s.check_of (keyring_of (agreed_suite root last n value)) n value 1 ≡ asked)
     (recipients : s.check_of (keyring_of (agreed_suite root last n value)) n value 2 ≡ replied) where
@@ -96,7 +98,7 @@ module _ (s : Scheme) (root : List ℕ) (last n room : ℕ) (wide : ltb room 255
       rw (left, same)
 
   -- VFY_REQ
-  pub confirm_sse : ltb 255 (length (frame_bytes Sse (vfy_req asked))) ≡ false
+  pub confirm_sse : ltb MAX_FRAME (length (frame_bytes Sse (vfy_req asked))) ≡ false
       → call_effect s (before EstablishedRecipient Sse Recipient no_seed) (frame (frame_bytes Sse (vfy_req asked)) beside room)
       ≡ stepped (before ConfirmedSse Sse Recipient no_seed) conf.Established 0 (frame_bytes Sse (vfy_res replied))
   confirm_sse short =
@@ -105,7 +107,7 @@ module _ (s : Scheme) (root : List ℕ) (last n room : ℕ) (wide : ltb room 255
       let same = same_bytes asked in
       rw (wide, long, short, theirs, same, own)
 
-  pub confirm_sch : ltb 255 (length (frame_bytes Sch (vfy_req asked))) ≡ false → eqb n last ≡ false
+  pub confirm_sch : ltb MAX_FRAME (length (frame_bytes Sch (vfy_req asked))) ≡ false → eqb n last ≡ false
       → call_effect s (before EstablishedRecipient Sch Recipient no_seed) (frame (frame_bytes Sch (vfy_req asked)) beside room)
       ≡ stepped (linked Recipient no_seed) conf.Established (n + 1) (frame_bytes Sch (vfy_res replied))
   confirm_sch short left =
@@ -116,7 +118,7 @@ module _ (s : Scheme) (root : List ℕ) (last n room : ℕ) (wide : ltb room 255
       rw (wide, long, short, theirs, same, own, link)
 
   -- VFY_RES
-  pub complete_sse : (seed : List ℕ) → ltb 255 (length (frame_bytes Sse (vfy_res replied))) ≡ false
+  pub complete_sse : (seed : List ℕ) → ltb MAX_FRAME (length (frame_bytes Sse (vfy_res replied))) ≡ false
       → call_effect s (before EstablishedSender Sse Sender seed) (frame (frame_bytes Sse (vfy_res replied)) beside room)
       ≡ stepped (before ConfirmedSse Sse Sender seed) conf.Established 0 []
   complete_sse seed short =
@@ -124,7 +126,7 @@ module _ (s : Scheme) (root : List ℕ) (last n room : ℕ) (wide : ltb room 255
       let same = same_bytes replied in
       rw (wide, long, short, theirs, same)
 
-  pub complete_sch : (seed : List ℕ) → ltb 255 (length (frame_bytes Sch (vfy_res replied))) ≡ false → eqb n last ≡ false
+  pub complete_sch : (seed : List ℕ) → ltb MAX_FRAME (length (frame_bytes Sch (vfy_res replied))) ≡ false → eqb n last ≡ false
       → call_effect s (before EstablishedSender Sch Sender seed) (frame (frame_bytes Sch (vfy_res replied)) beside room)
       ≡ stepped (linked Sender seed) conf.Established (n + 1) []
   complete_sch seed short left =
@@ -146,11 +148,11 @@ module _ (s : Scheme) (m : Model) (plain : List ℕ) (fit : IsRecordData plain) 
   filled : eqb (length plain) 0 ≡ false
   filled = let some = fit.some in ne_eqb (length plain) 0 (λ e. omega arith)
 
-  not_long : ltb 200 (length plain) ≡ false
-  not_long = le-ltb 200 (length plain) fit.most
+  not_long : ltb MAX_DATA (length plain) ≡ false
+  not_long = le-ltb MAX_DATA (length plain) fit.most
 
   -- SEND
-  pub send_is : (room : ℕ) → 255 ≤ room → (value : List ℕ) → IsConfirmed Sch m → value_in m.means.live LinkKey m.link ≡ Some value
+  pub send_is : (room : ℕ) → MAX_FRAME ≤ room → (value : List ℕ) → IsConfirmed Sch m → value_in m.means.live LinkKey m.link ≡ Some value
       → m.number < s.final
       → let payload = s.seal_of (keyring_of m.means) m.link value (role_byte m.role) (m.number + 1) plain in
       call_effect s m (send plain room) ≡ stepped (record m { number = m.number + 1 }) conf.DataSent 0 (frame_bytes Sch (enc payload))
@@ -163,8 +165,8 @@ module _ (s : Scheme) (m : Model) (plain : List ℕ) (fit : IsRecordData plain) 
       rw (sealed, roomy, state, filled, not_long, next)
 
   -- ENC of the other role
-  pub hear_is : (room : ℕ) → 255 ≤ room → (beside : Ancillary) → IsBytes16 beside.seed → (value payload : List ℕ) (role : ℕ)
-      → IsInLink value m → m.number < s.final → length payload ≤ 254 → eqb role (role_byte m.role) ≡ false
+  pub hear_is : (room : ℕ) → MAX_FRAME ≤ room → (beside : Ancillary) → IsBytes16 beside.seed → (value payload : List ℕ) (role : ℕ)
+      → IsInLink value m → m.number < s.final → length payload ≤ MAX_PAYLOAD → eqb role (role_byte m.role) ≡ false
       → s.open_of (keyring_of m.means) m.link value payload ≡ Some (role, m.number + 1, plain)
       → call_effect s m (frame (frame_bytes Sch (enc payload)) beside room)
       ≡ stepped (record m { number = m.number + 1; held = plain }) conf.DataAvailable 0 []
@@ -176,14 +178,14 @@ module _ (s : Scheme) (m : Model) (plain : List ℕ) (fit : IsRecordData plain) 
       let opened : opened_record s m payload ≡ Ok (role, m.number + 1, plain)
       = ap (λ z. good_record (s.open_of (keyring_of m.means) m.link z payload)) (value_is m.means.live LinkKey m.link value c.key) ∙ ap good_record opens in
       let sixteen : eqb (length beside.seed) 16 ≡ true = eq-eqb (length beside.seed) 16 h.long in
-      let short : ltb 255 (length (frame_bytes Sch (enc payload))) ≡ false = le-ltb 255 (length (frame_bytes Sch (enc payload))) (omega arith) in
+      let short : ltb MAX_FRAME (length (frame_bytes Sch (enc payload))) ≡ false = le-ltb MAX_FRAME (length (frame_bytes Sch (enc payload))) (omega arith) in
       let other : eqb (m.number + 1) m.number ≡ false = ne_eqb (m.number + 1) m.number (λ e. omega arith) in
       let self : eqb (m.number + 1) (m.number + 1) ≡ true = eq-eqb (m.number + 1) (m.number + 1) refl in
       let low : ltb s.final (m.number + 1) ≡ false = le-ltb s.final (m.number + 1) (omega arith) in
       rw (roomy, sixteen, short, none, state, service, opened, filled, not_long, other, differs, self, low)
 
   -- RETRIEVE_DATA
-  pub data_is : (room : ℕ) → 200 ≤ room → IsConfirmed Sch m → m.held ≡ plain → call_effect s m (retrieve_data room) ≡ stepped (record m { held = [] }) conf.Nothing 0 plain
+  pub data_is : (room : ℕ) → MAX_DATA ≤ room → IsConfirmed Sch m → m.held ≡ plain → call_effect s m (retrieve_data room) ≡ stepped (record m { held = [] }) conf.Nothing 0 plain
   data_is room enough c held =
       let most = fit.most in
       let state = c.state in
@@ -192,8 +194,8 @@ module _ (s : Scheme) (m : Model) (plain : List ℕ) (fit : IsRecordData plain) 
 
 -- The end, for either service.
 
-module _ (s : Scheme) (m : Model) (room : ℕ) (enough : 255 ≤ room) where
-  wide : ltb room 255 ≡ false
+module _ (s : Scheme) (m : Model) (room : ℕ) (enough : MAX_FRAME ≤ room) where
+  wide : ltb room MAX_FRAME ≡ false
   wide = room_enough room enough
 
   -- TERMINATE

@@ -3,6 +3,7 @@ use Rattle.std.specs.Prelude.{◌≡◌, ℕ, ◌+◌, ◌<◌, ◌≤◌, true,
 use Rattle.std.specs.List.{AllByRecursion}
 use Rattle.frame.specs.declared.types.Service.{Service}
 use Rattle.frame.specs.declared.types.Service.TheVariants.{Sse, Sch}
+use Rattle.suite.specs.declared.limits.TheConstants.{MAX_DATA}
 use Rattle.suite.specs.declared.types.Role.{Role}
 use Rattle.suite.specs.declared.types.Role.TheVariants.{Sender, Recipient}
 use Rattle.suite.specs.declared.types.KeyKind.TheVariants.{LinkKey}
@@ -139,7 +140,7 @@ SecretSucceeds = (s : Scheme) → IsLawful s → DependsOnRootAndValue s → (x 
 -- the data of a record
 pub record IsRecordData (plain : List ℕ) : Type 0 where
   pub some : 0 < length plain
-  pub most : length plain ≤ 200
+  pub most : length plain ≤ MAX_DATA
   pub bytes : IsBytes plain
 
 -- each line of a talk is the data of a record

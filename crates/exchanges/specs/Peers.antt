@@ -1,6 +1,8 @@
 -- Two entities, and the calls by which frames are passed on unaltered between them.
 use Rattle.std.specs.Prelude.{ℕ, ◌≤◌, List, [], ◌∷◌, length, Err, Result}
+use Rattle.buffers.specs.declared.limits.TheConstants.{MAX_FRAME}
 use Rattle.frame.specs.declared.types.Service.{Service}
+use Rattle.suite.specs.declared.limits.TheConstants.{MAX_DATA}
 use Rattle.suite.specs.Meanings.{Meaning, IsBytes16}
 use Rattle.suite.specs.Schemes.{Scheme}
 use Rattle.protocol.specs.declared.refusals.Refusal.{Refusal}
@@ -17,8 +19,8 @@ pub record Supply : Type 0 where
   pub room : ℕ → ℕ
   pub out : ℕ → ℕ
   pub seeds : (n : ℕ) → IsBytes16 (beside n).seed
-  pub rooms : (n : ℕ) → 255 ≤ room n
-  pub outs : (n : ℕ) → 200 ≤ out n
+  pub rooms : (n : ℕ) → MAX_FRAME ≤ room n
+  pub outs : (n : ℕ) → MAX_DATA ≤ out n
 
 -- an entity, the history of its calls, and what it has for each
 pub record Peer : Type 0 where

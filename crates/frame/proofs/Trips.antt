@@ -3,6 +3,7 @@ use Rattle.std.proofs.Common.{◌≡◌, ℕ, Bool, true, false, cond, not, eqb,
 use Rattle.std.proofs.lemmas.List.{take_at}
 use Rattle.std.proofs.lemmas.Bool.{eqb-true, le-ltb, ltb-false}
 use Rattle.std.proofs.lemmas.Bool.Decides.{nat_tests}
+use Rattle.buffers.specs.declared.limits.TheConstants.{MAX_FRAME, MAX_PAYLOAD}
 use Rattle.frame.specs.declared.types.Service.{Service}
 use Rattle.frame.specs.declared.types.Service.TheVariants.{Sse, Sch}
 use Rattle.frame.specs.declared.types.MessageKind.{MessageKind}
@@ -73,9 +74,9 @@ shaped_is msg.Error p x e = shaped_as (error p) x refl e
 record Taken (frame : List ℕ) (x : FrameParts) : Type 0 where
   bytes : wire_bytes x ≡ frame
   light : is_tmn_with_payload x.contents ≡ false
-  short : ltb 255 (length frame) ≡ false
+  short : ltb MAX_FRAME (length frame) ≡ false
 
-taken_body : (b : ℕ) (rest : List ℕ) (s : Service) (k : MessageKind) (x : FrameParts) (r : Result Contents FaultCode) → b ≡ sep s k → ltb 255 (length (b ∷ rest)) ≡ false → contents_reading k rest ≡ r → reading_of_contents s r ≡ message x → Taken (b ∷ rest) x
+taken_body : (b : ℕ) (rest : List ℕ) (s : Service) (k : MessageKind) (x : FrameParts) (r : Result Contents FaultCode) → b ≡ sep s k → ltb MAX_FRAME (length (b ∷ rest)) ≡ false → contents_reading k rest ≡ r → reading_of_contents s r ≡ message x → Taken (b ∷ rest) x
 taken_body b rest s k x (Err f) hb short hr e = never (cc)
 taken_body b rest s k x (Ok y) hb short hr e =
     let h = shaped_is k rest y hr in
@@ -84,35 +85,35 @@ taken_body b rest s k x (Ok y) hb short hr e =
     let whole : wire_bytes (record { service = s; contents = y }) ≡ b ∷ rest = ap (λ z. z ∷ bytes_after_sep y) head' ∙ ap (λ z. b ∷ z) h.bytes in
     subst (Taken (b ∷ rest)) same (record { bytes = whole; light = h.light; short = short })
 
-taken_head : (b : ℕ) (rest : List ℕ) (x : FrameParts) (r : Result (Service × MessageKind) FaultCode) → ltb 255 (length (b ∷ rest)) ≡ false → sep_reading b ≡ r → reading_of_sep r rest ≡ message x → Taken (b ∷ rest) x
+taken_head : (b : ℕ) (rest : List ℕ) (x : FrameParts) (r : Result (Service × MessageKind) FaultCode) → ltb MAX_FRAME (length (b ∷ rest)) ≡ false → sep_reading b ≡ r → reading_of_sep r rest ≡ message x → Taken (b ∷ rest) x
 taken_head b rest x (Err f) short hr e = never (cc)
 taken_head b rest x (Ok (s, k)) short hr e = taken_body b rest s k x (contents_reading k rest) (head_is b s k hr) short refl e
 
-taken_at : (b : ℕ) (rest : List ℕ) (x : FrameParts) (t : Bool) → ltb 255 (length (b ∷ rest)) ≡ t → cond t (refused 3) (reading_of_sep (sep_reading b) rest) ≡ message x → Taken (b ∷ rest) x
+taken_at : (b : ℕ) (rest : List ℕ) (x : FrameParts) (t : Bool) → ltb MAX_FRAME (length (b ∷ rest)) ≡ t → cond t (refused 3) (reading_of_sep (sep_reading b) rest) ≡ message x → Taken (b ∷ rest) x
 taken_at b rest x true short e = never (cc)
 taken_at b rest x false short e = taken_head b rest x (sep_reading b) short refl e
 
 taken : (frame : List ℕ) (x : FrameParts) → reading frame ≡ message x → Taken frame x
 taken [] x e = never (cc)
-taken (b ∷ rest) x e = taken_at b rest x (ltb 255 (length (b ∷ rest))) refl e
+taken (b ∷ rest) x e = taken_at b rest x (ltb MAX_FRAME (length (b ∷ rest))) refl e
 
 -- bytes that are read as a message are the bytes of that message
 pub read_is : (frame : List ℕ) (x : FrameParts) → reading frame ≡ message x → wire_bytes x ≡ frame
 read_is frame x e = (taken frame x e).bytes
 
--- what stands after its SEP has at most 254 bytes
-pub read_short : (frame : List ℕ) (x : FrameParts) → reading frame ≡ message x → length (bytes_after_sep x.contents) ≤ 254
+-- what stands after its SEP has at most MAX_PAYLOAD bytes
+pub read_short : (frame : List ℕ) (x : FrameParts) → reading frame ≡ message x → length (bytes_after_sep x.contents) ≤ MAX_PAYLOAD
 read_short frame x e =
     let t = taken frame x e in
     let long : length (wire_bytes x) ≡ length frame = ap length t.bytes in
-    let most : length frame ≤ 255 = ltb-false 255 (length frame) t.short in
+    let most : length frame ≤ MAX_FRAME = ltb-false MAX_FRAME (length frame) t.short in
     omega arith
 
 pub writes_again : (frame : List ℕ) (r : Reading) → r ≡ reading frame → WritesAgain frame r
 writes_again frame r is x room e h =
     let t = taken frame x (sym is ∙ e) in
-    let enough : ltb room 255 ≡ false = le-ltb room 255 h in
-    let short : ltb 255 (length (wire_bytes x)) ≡ false = ap (λ z. ltb 255 (length z)) t.bytes ∙ t.short in
+    let enough : ltb room MAX_FRAME ≡ false = le-ltb room MAX_FRAME h in
+    let short : ltb MAX_FRAME (length (wire_bytes x)) ≡ false = ap (λ z. ltb MAX_FRAME (length z)) t.bytes ∙ t.short in
     rw (enough, short, t.light, t.bytes)
 
 -- From a message to bytes and back.
@@ -143,7 +144,7 @@ shaped_of (tmn []) h = refl
 shaped_of (tmn (y ∷ p)) h = never (grind (arith, nat_tests))
 shaped_of (error p) h = refl
 
-reads : (x : FrameParts) → ltb 255 (length (wire_bytes x)) ≡ false → is_tmn_with_payload x.contents ≡ false → reading (wire_bytes x) ≡ message x
+reads : (x : FrameParts) → ltb MAX_FRAME (length (wire_bytes x)) ≡ false → is_tmn_with_payload x.contents ≡ false → reading (wire_bytes x) ≡ message x
 reads x short light =
     ap (λ b. cond b (refused 3) (reading_of_sep (sep_reading (sep x.service (kind_of x.contents))) (bytes_after_sep x.contents))) short
     ∙ ap (λ r. reading_of_sep r (bytes_after_sep x.contents)) (head_of x.service (kind_of x.contents))
@@ -152,7 +153,7 @@ reads x short light =
 pub reads_back : (x : FrameParts) (r : Result ℕ Refusal) (old new : List ℕ) → numbered_result r ≡ length_result (writing_result x (length old)) → new ≡ buffer_after (writing_result x (length old)) old → ReadsBack x r new
 reads_back x (Err e) old new h k = tt
 reads_back x (Ok n) old new h k =
-    let s : ltb 255 (length (wire_bytes x)) ≡ false = grind (arith, nat_tests) in
+    let s : ltb MAX_FRAME (length (wire_bytes x)) ≡ false = grind (arith, nat_tests) in
     let light : is_tmn_with_payload x.contents ≡ false = grind (arith, nat_tests) in
     let is : n ≡ length (wire_bytes x) = grind (arith, nat_tests) in
     let all : new ≡ with_front (wire_bytes x) old = grind (arith, nat_tests) in

@@ -1,6 +1,7 @@
 -- What the reader answers to any bytes.
 use Rattle.std.specs.Prelude.{ℕ, ◌/◌, ◌%◌, cond, not, List, [], ◌∷◌, length, Some, None, Ok, Err, Option, Result, ◌==◌, nat_lt}
 use Rattle.std.specs.Option.{ok_or}
+use Rattle.buffers.specs.declared.limits.TheConstants.{MAX_FRAME}
 use Rattle.frame.specs.declared.types.Service.{Service}
 use Rattle.frame.specs.declared.types.Service.TheVariants.{Sse, Sch}
 use Rattle.frame.specs.declared.types.MessageKind.{MessageKind}
@@ -85,10 +86,10 @@ abbrev pub reading_of_sep : Result (Service × MessageKind) FaultCode → List �
 reading_of_sep (Ok (s, k)) rest = reading_of_contents s (contents_reading k rest)
 reading_of_sep (Err f) rest = fault f
 
--- 3 where there is no byte, or more than 255
+-- 3 where there is no byte, or more than MAX_FRAME
 abbrev pub reading : List ℕ → Reading
 reading [] = refused 3
-reading (b ∷ rest) = cond (nat_lt 255 (length (b ∷ rest))) (refused 3) (reading_of_sep (sep_reading b) rest)
+reading (b ∷ rest) = cond (nat_lt MAX_FRAME (length (b ∷ rest))) (refused 3) (reading_of_sep (sep_reading b) rest)
 
 -- The code's answers by their numbers.
 

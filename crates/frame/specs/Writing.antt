@@ -1,5 +1,6 @@
 -- What the writer answers and writes, and that reader and writer undo each other.
 use Rattle.std.specs.Prelude.{◌≡◌, ℕ, ◌≤◌, Bool, cond, not, ◌&&◌, ◌||◌, List, length, take, Ok, Err, Result, ◌==◌, nat_lt}
+use Rattle.buffers.specs.declared.limits.TheConstants.{MAX_FRAME}
 use Rattle.frame.specs.declared.faults.Refusal.{Refusal}
 use Rattle.frame.specs.declared.types.MessageKind.TheVariants as msg
 use Rattle.frame.specs.Numbers.{message_code, refusal_number}
@@ -13,8 +14,8 @@ is_tmn_with_payload x = message_code (kind_of x) == message_code msg.Tmn && not 
 -- the bytes written, or the number of the refusal
 abbrev pub writing_result : FrameParts → ℕ → Result (List ℕ) ℕ
 writing_result x room =
-    cond (nat_lt room 255) (Err 1)
-    (cond (nat_lt 255 (length (wire_bytes x)) || is_tmn_with_payload x.contents) (Err 3)
+    cond (nat_lt room MAX_FRAME) (Err 1)
+    (cond (nat_lt MAX_FRAME (length (wire_bytes x)) || is_tmn_with_payload x.contents) (Err 3)
     (Ok (wire_bytes x)))
 
 -- the code's answer by its numbers
@@ -29,4 +30,4 @@ ReadsBack x (Err r) buffer = Unit {0}
 
 -- bytes that are read as a message are what is written of it, in any buffer that is long enough
 abbrev pub WritesAgain : List ℕ → Reading → Type 0
-WritesAgain frame r = (x : FrameParts) (room : ℕ) → r ≡ message x → 255 ≤ room → writing_result x room ≡ Ok frame
+WritesAgain frame r = (x : FrameParts) (room : ℕ) → r ≡ message x → MAX_FRAME ≤ room → writing_result x room ≡ Ok frame

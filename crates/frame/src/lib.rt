@@ -7,8 +7,9 @@ mod reader;
 mod types;
 mod writer;
 
+pub use buffers::MAX_FRAME;
 pub use detail_reader::Detail;
 pub use faults::{CodecFault, FaultCode, ReadError, Refusal};
 pub use reader::read;
-pub use types::{Body, MAX_FRAME, Message, MessageKind, Service};
+pub use types::{Body, Message, MessageKind, Service};
 pub use writer::write;

@@ -3,7 +3,8 @@ ghost use Rattle.frame.specs.Reading.{reading, reading_answered as read_as, read
 ghost use Rattle.frame.specs.Writing.{WritesAgain};
 
 use super::faults::{CodecFault, ReadError, Refusal};
-use super::types::{Body, MAX_FRAME, Message, MessageKind, Service};
+use super::types::{Body, Message, MessageKind, Service};
+use buffers::MAX_FRAME;
 
 fn read_sep(sep: u8) -> Result<(Service, MessageKind), CodecFault>
     ensures { coded_result result ≡ sep_reading sep }

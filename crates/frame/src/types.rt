@@ -7,9 +7,6 @@ ghost use Rattle.frame.specs.Words.{service_words, message_words};
 use super::faults::CodecFault;
 use std::fmt;
 
-/// The longest frame, and the least buffer that the writer takes.
-pub const MAX_FRAME: usize = 255;
-
 #[derive(Clone, Copy, Debug, PartialEq, Eq)]
 pub enum Service {
     /// The shared secret service.

@@ -4,7 +4,8 @@ ghost use Rattle.buffers.specs.Buffers.{with_front, length_result, buffer_after}
 ghost use Rattle.frame.specs.Writing.{writing_result, numbered_result, is_tmn_with_payload, ReadsBack};
 
 use super::faults::Refusal;
-use super::types::{Body, MAX_FRAME, Message, MessageKind, Service};
+use super::types::{Body, Message, MessageKind, Service};
+use buffers::{MAX_FRAME, MAX_PAYLOAD};
 
 fn sep(service: Service, kind: MessageKind) -> u8
     ensures { result ≡ sep_of service kind }
@@ -14,12 +15,12 @@ fn sep(service: Service, kind: MessageKind) -> u8
 
 // Is there a frame of it: short enough, and no payload in TMN.
 fn has_frame(body: &Body<'_>) -> bool
-    ensures { result ≡ not (nat_lt 254 (length (bytes_after_sep (contents_of body.now))) || is_tmn_with_payload (contents_of body.now)) }
+    ensures { result ≡ not (nat_lt MAX_PAYLOAD (length (bytes_after_sep (contents_of body.now))) || is_tmn_with_payload (contents_of body.now)) }
 {
     match body {
-        Body::ActReq(_, payload) => payload.len() + 2 <= MAX_FRAME,
+        Body::ActReq(_, payload) => payload.len() < MAX_PAYLOAD,
         Body::Tmn(payload) => payload.is_empty(),
-        _ => body.payload().len() + 1 <= MAX_FRAME,
+        _ => body.payload().len() <= MAX_PAYLOAD,
     }
 }
 

@@ -2,6 +2,7 @@
 use Rattle.std.specs.Prelude.{ℕ, ◌/◌, ◌%◌, cond, List, ◌∷◌, ◌++◌, take, replicate, ◌==◌, slice_index}
 use Rattle.aes128.specs.Cipher.{cipher_with, schedule}
 use Rattle.cmac.specs.Cmac.{cmac}
+use Rattle.suite.specs.declared.limits.TheConstants.{MAX_NUMBER}
 use Rattle.suite.specs.declared.types.Role.TheVariants.{Sender}
 use Rattle.suite.specs.Numbers.{role_byte}
 use Rattle.suite_of.specs.Payloads.{four_bytes}
@@ -30,7 +31,7 @@ keyed_functions = record {
   pid = 0xF1;
   check_length = 8;
   field_length = 8;
-  final = 16777215;
+  final = MAX_NUMBER;
   secret_of = secret_of;
   check_of = λ value role. take 8 (cmac value (role ∷ replicate 15 0));
   link_of = λ value. cmac value (replicate 16 3);

@@ -4,8 +4,10 @@ use Rattle.std.specs.Prelude.{nat_le}
 use Rattle.std.proofs.lemmas.Bool.{and_parts, leb-true}
 use Rattle.std.proofs.lemmas.Grind.{common_steps}
 use Rattle.std.proofs.lemmas.Slice.Eq.{bytes_eq-Decides}
+use Rattle.buffers.specs.declared.limits.TheConstants.{MAX_FRAME, MAX_PAYLOAD}
 use Rattle.buffers.specs.Buffers.{length_result, buffer_after}
 use Rattle.buffers.proofs.FrontLaws.{take-over}
+use Rattle.suite.specs.declared.limits.TheConstants.{MAX_DATA, MAX_NUMBER}
 use Rattle.suite.specs.declared.types.Denial.TheVariants.{Unfit}
 use Rattle.suite.specs.declared.types.Role.TheVariants.{Sender}
 use Rattle.suite.specs.Numbers.{role_byte}
@@ -21,34 +23,34 @@ module _ (k : KindFunctions) (long : (value body : List ℕ) → length (k.field
   payload : List ℕ → ℕ → List ℕ → List ℕ
   payload value n plain = with_field (k.field_of value) (payload_body (k.stream_of value 1 n) 1 n plain)
 
-  payload-length : (value plain : List ℕ) (n : ℕ) → length plain ≤ 200 → length (payload value n plain) ≤ 254
+  payload-length : (value plain : List ℕ) (n : ℕ) → length plain ≤ MAX_DATA → length (payload value n plain) ≤ MAX_PAYLOAD
   unfolding payload
   payload-length value plain n h =
       let body = payload_body (k.stream_of value 1 n) 1 n plain in
       omega (arith, closed-length (k.field_of value) k.field_length body (long value body), body-length (k.stream_of value 1 n) 1 n plain)
 
-  payload-read : (value plain : List ℕ) (n : ℕ) → n ≤ 16777215 → payload_parts k.field_length (k.field_of value) (k.stream_of value) (payload value n plain) ≡ Some (1, n, plain)
+  payload-read : (value plain : List ℕ) (n : ℕ) → n ≤ MAX_NUMBER → payload_parts k.field_length (k.field_of value) (k.stream_of value) (payload value n plain) ≡ Some (1, n, plain)
   unfolding payload
-  payload-read value plain n h = reads_back k.field_length (k.field_of value) (k.stream_of value) 1 n plain (long value _) refl h
+  payload-read value plain n h = reads_back k.field_length (k.field_of value) (k.stream_of value) 1 n plain (long value _) refl (omega arith)
 
-  sealed_is : (m : Meaning) (key n : ℕ) (plain value : List ℕ) → value_in m.live LinkKey key ≡ Some value → length plain ≤ 200 → n ≤ 16777215 → seal_result (scheme_of k) m key 1 n plain 255 ≡ Ok (payload value n plain)
+  sealed_is : (m : Meaning) (key n : ℕ) (plain value : List ℕ) → value_in m.live LinkKey key ≡ Some value → length plain ≤ MAX_DATA → n ≤ MAX_NUMBER → seal_result (scheme_of k) m key 1 n plain MAX_FRAME ≡ Ok (payload value n plain)
   unfolding payload
   sealed_is m key n plain value e h l = grind (arith, common_steps)
 
-  denied : (m : Meaning) (key n : ℕ) (plain : List ℕ) → is_in_limits plain n ≡ false → seal_result (scheme_of k) m key 1 n plain 255 ≡ Err Unfit
+  denied : (m : Meaning) (key n : ℕ) (plain : List ℕ) → is_in_limits plain n ≡ false → seal_result (scheme_of k) m key 1 n plain MAX_FRAME ≡ Err Unfit
   denied m key n plain h = grind (arith, common_steps)
 
-  opened_is : (m : Meaning) (key : ℕ) (value sent : List ℕ) → value_in m.live LinkKey key ≡ Some value → length sent ≤ 254 → open_result (scheme_of k) m key sent 255 ≡ Ok (payload_parts k.field_length (k.field_of value) (k.stream_of value) sent)
+  opened_is : (m : Meaning) (key : ℕ) (value sent : List ℕ) → value_in m.live LinkKey key ≡ Some value → length sent ≤ MAX_PAYLOAD → open_result (scheme_of k) m key sent MAX_FRAME ≡ Ok (payload_parts k.field_length (k.field_of value) (k.stream_of value) sent)
   opened_is m key value sent e h = grind (arith, common_steps)
 
   gave_itself : (n : ℕ) (plain : List ℕ) → is_given_back n plain (Ok (Some (1, n, plain))) ≡ true
   gave_itself n plain = let e = (bytes_eq-Decides plain plain).1 refl in grind (arith, common_steps)
 
-  within : (m : Meaning) (key n : ℕ) (plain value : List ℕ) → value_in m.live LinkKey key ≡ Some value → length plain ≤ 200 → n ≤ 16777215 → is_given_back n plain (open_result (scheme_of k) m key (payload value n plain) 255) ≡ true
+  within : (m : Meaning) (key n : ℕ) (plain value : List ℕ) → value_in m.live LinkKey key ≡ Some value → length plain ≤ MAX_DATA → n ≤ MAX_NUMBER → is_given_back n plain (open_result (scheme_of k) m key (payload value n plain) MAX_FRAME) ≡ true
   within m key n plain value e h l = rw (opened_is m key value (payload value n plain) e (payload-length value plain n h), payload-read value plain n l) (gave_itself n plain)
 
-  module _ (m : Meaning) (key n size : ℕ) (plain buffer out : List ℕ) (answer : Ok size ≡ length_result (seal_result (scheme_of k) m key 1 n plain 255)) (writes : out ≡ buffer_after (seal_result (scheme_of k) m key 1 n plain 255) buffer) where
-    of_value : (o : Option (List ℕ)) → value_in m.live LinkKey key ≡ o → is_some o ≡ true → length plain ≤ 200 → n ≤ 16777215 → is_given_back n plain (open_result (scheme_of k) m key (take size out) 255) ≡ true
+  module _ (m : Meaning) (key n size : ℕ) (plain buffer out : List ℕ) (answer : Ok size ≡ length_result (seal_result (scheme_of k) m key 1 n plain MAX_FRAME)) (writes : out ≡ buffer_after (seal_result (scheme_of k) m key 1 n plain MAX_FRAME) buffer) where
+    of_value : (o : Option (List ℕ)) → value_in m.live LinkKey key ≡ o → is_some o ≡ true → length plain ≤ MAX_DATA → n ≤ MAX_NUMBER → is_given_back n plain (open_result (scheme_of k) m key (take size out) MAX_FRAME) ≡ true
     of_value None e live h l = cc
     of_value (Some value) e live h l =
         let s = sealed_is m key n plain value e h l in
@@ -57,17 +59,17 @@ module _ (k : KindFunctions) (long : (value body : List ℕ) → length (k.field
         let size_is : size ≡ length (payload value n plain) = cc in
         rw (w, take-over (payload value n plain) buffer size size_is) (within m key n plain value e h l)
 
-    of_limits : (b : Bool) → is_in_limits plain n ≡ b → is_some (value_in m.live LinkKey key) ≡ true → is_given_back n plain (open_result (scheme_of k) m key (take size out) 255) ≡ b
+    of_limits : (b : Bool) → is_in_limits plain n ≡ b → is_some (value_in m.live LinkKey key) ≡ true → is_given_back n plain (open_result (scheme_of k) m key (take size out) MAX_FRAME) ≡ b
     of_limits false e live = let a = rw (denied m key n plain e) at answer in cc
     of_limits true e live =
-        let parts = and_parts (nat_le (length plain) 200) (nat_le n 16777215) e in
-        of_value _ refl live (leb-true (length plain) 200 parts.0) (leb-true n 16777215 parts.1)
+        let parts = and_parts (nat_le (length plain) MAX_DATA) (nat_le n MAX_NUMBER) e in
+        of_value _ refl live (leb-true (length plain) MAX_DATA parts.0) (leb-true n MAX_NUMBER parts.1)
 
   pub returns_itself : (m : Meaning) (key role n size : ℕ) (plain buffer out : List ℕ) → is_some (value_in m.live LinkKey key) ≡ true → role ≡ role_byte Sender
-      → Ok size ≡ length_result (seal_result (scheme_of k) m key role n plain 255)
-      → out ≡ buffer_after (seal_result (scheme_of k) m key role n plain 255) buffer
-      → is_given_back n plain (open_result (scheme_of k) m key (take size out) 255) ≡ is_in_limits plain n
+      → Ok size ≡ length_result (seal_result (scheme_of k) m key role n plain MAX_FRAME)
+      → out ≡ buffer_after (seal_result (scheme_of k) m key role n plain MAX_FRAME) buffer
+      → is_given_back n plain (open_result (scheme_of k) m key (take size out) MAX_FRAME) ≡ is_in_limits plain n
   returns_itself m key role n size plain buffer out live is answer writes =
-      let a = subst (λ r. Ok size ≡ length_result (seal_result (scheme_of k) m key r n plain 255)) is answer in
-      let w = subst (λ r. out ≡ buffer_after (seal_result (scheme_of k) m key r n plain 255) buffer) is writes in
+      let a = subst (λ r. Ok size ≡ length_result (seal_result (scheme_of k) m key r n plain MAX_FRAME)) is answer in
+      let w = subst (λ r. out ≡ buffer_after (seal_result (scheme_of k) m key r n plain MAX_FRAME) buffer) is writes in
       of_limits m key n size plain buffer out a w _ refl live

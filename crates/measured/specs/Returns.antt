@@ -1,6 +1,7 @@
 -- How many of the records that are sealed and opened for a measurement come back.
 use Rattle.std.specs.Prelude.{ℕ, Bool, false, cond, ◌&&◌, List, [], length, min, Ok, Err, Some, None, Option, Result, ◌==◌, nat_le}
 use Rattle.std.specs.Str.{bytes_eq}
+use Rattle.suite.specs.declared.limits.TheConstants.{MAX_DATA, MAX_NUMBER}
 use Rattle.suite.specs.Meanings.{Meaning}
 use Rattle.suite.specs.Numbers.{role_byte}
 use Rattle.suite.specs.declared.types.Denial.{Denial}
@@ -18,11 +19,11 @@ is_given_back n plain (Err e) = false
 
 -- whether a record of these data and that number is within the limits of a suite
 abbrev pub is_in_limits : List ℕ → ℕ → Bool
-is_in_limits plain n = nat_le (length plain) 200 && nat_le n 16777215
+is_in_limits plain n = nat_le (length plain) MAX_DATA && nat_le n MAX_NUMBER
 
 -- how many of the records of these data with the numbers from 1 to n come back: all that have a number within the limits of a suite
 abbrev pub return_count : List ℕ → ℕ → ℕ
-return_count plain n = cond (nat_le (length plain) 200) (min n 16777215) 0
+return_count plain n = cond (nat_le (length plain) MAX_DATA) (min n MAX_NUMBER) 0
 
 -- the same under a root: none, if it has not sixteen bytes
 abbrev pub return_count_under : List ℕ → List ℕ → ℕ → ℕ

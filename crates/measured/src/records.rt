@@ -7,6 +7,7 @@ ghost use Rattle.suite.specs.declared.types.KeyKind.TheVariants.{LinkKey};
 ghost use Rattle.suite_of.specs.KindMeanings.{meaning_of};
 ghost use Rattle.suite_of.specs.Kinds.{scheme_of};
 
+use buffers::MAX_FRAME;
 use keyed_suite::KeyedSuite;
 use suite::{Denial, Role, Suite};
 
@@ -22,9 +23,9 @@ fn link(suite: &mut KeyedSuite) -> Result<u32, Denial>
 
 // Whether a payload opens as the Sender's record of that number and those data.
 fn opens(suite: &KeyedSuite, link: u32, payload: &[u8], number: u32, plain: &[u8]) -> bool
-    ensures { result ≡ is_given_back number plain.now (open_result (scheme_of keyed_functions) (meaning_of suite.now) link payload.now 255) }
+    ensures { result ≡ is_given_back number plain.now (open_result (scheme_of keyed_functions) (meaning_of suite.now) link payload.now MAX_FRAME) }
 {
-    let mut back = [0; 255];
+    let mut back = [0; MAX_FRAME];
     match suite.open(link, payload, &mut back) {
         Ok(Some((role, again, size))) => {
             role == Role::Sender.byte() && again == number && &back[..size] == plain
@@ -38,7 +39,7 @@ fn crosses(suite: &KeyedSuite, link: u32, number: u32, plain: &[u8]) -> bool
     requires { is_some (value_in (meaning_of suite.now).live LinkKey link) ≡ true }
     ensures { result ≡ is_in_limits plain.now number }
 {
-    let mut payload = [0; 255];
+    let mut payload = [0; MAX_FRAME];
     match suite.seal(link, Role::Sender.byte(), number, plain, &mut payload) {
         Ok(length) => opens(suite, link, &payload[..length], number, plain),
         Err(_denial) => false,

@@ -2,6 +2,7 @@
 use Rattle.std.proofs.Common.{◌≡◌, ◌≢◌, ℕ, ◌+◌, ◌≤◌, true, false, not, ◌||◌, eqb, List, [], ◌∷◌, length, Ok, Err, Result, sym, refl, ap, subst, arith}
 use Rattle.std.proofs.lemmas.Bool.{ne_eqb, eq-eqb, or_left, or_right}
 use Rattle.std.specs.Prelude.{is_some}
+use Rattle.buffers.specs.declared.limits.TheConstants.{MAX_FRAME}
 use Rattle.frame.specs.declared.types.Service.{Service}
 use Rattle.suite.specs.declared.types.Role.{Role}
 use Rattle.suite.specs.declared.types.KeyKind.TheVariants.{SharedSecret, LinkKey}
@@ -38,7 +39,7 @@ same_as e g = subst IsWellAsked (sym e) g
 
 -- The suite's calls.
 
-offer_asked : (s : Scheme) (m : Meaning) (seed : List ℕ) (room : ℕ) → length seed ≡ 16 → 255 ≤ room → IsWellAsked (offer_result s m seed room)
+offer_asked : (s : Scheme) (m : Meaning) (seed : List ℕ) (room : ℕ) → length seed ≡ 16 → MAX_FRAME ≤ room → IsWellAsked (offer_result s m seed room)
 offer_asked s m seed room e h = same_as (offered_is s m seed room e h) (answered _)
 
 agreement_asked : (s : Scheme) (m : Meaning) (seed offer : List ℕ) (role : Role) → length seed ≡ 16 → IsWellAsked (agree_result s m seed offer (role_byte role))

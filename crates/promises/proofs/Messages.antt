@@ -6,6 +6,7 @@ use Rattle.frame.specs.declared.types.Service.TheVariants.{Sse, Sch}
 use Rattle.frame.specs.Numbers.{service_code}
 use Rattle.frame.specs.Frames.{Contents, act_req, act_res, vfy_req, vfy_res, enc, tmn, error}
 use Rattle.frame.specs.Reading.{Reading, message, refused as unread, fault, reading}
+use Rattle.suite.specs.declared.limits.TheConstants.{MAX_DATA}
 use Rattle.suite.specs.declared.types.Role.{Role}
 use Rattle.suite.specs.declared.types.Role.TheVariants.{Sender, Recipient}
 use Rattle.suite.specs.declared.types.KeyKind.TheVariants.{SharedSecret, LinkKey}
@@ -146,7 +147,7 @@ module _ (s : Scheme) (law : IsLawful s) (bytes : List ℕ) (beside : Ancillary)
       (λ _. both (eqb who (role_byte role)) P (λ _. bad _)
       (λ theirs. both (not (eqb num (number + 1)) || ltb s.final num) P (λ _. bad _)
       (λ e.
-      let full = and_parts (not (is_empty plain)) (not (ltb 200 (length plain))) (not-false (is_record_length (length plain)) long) in
+      let full = and_parts (not (is_empty plain)) (not (ltb MAX_DATA (length plain))) (not-false (is_record_length (length plain)) long) in
       let parts = or_parts (not (eqb num (number + 1))) (ltb s.final num) e in
       let same : num ≡ number + 1 = eqb-true num (number + 1) (not-false (eqb num (number + 1)) parts.0) in
       let below : num ≤ s.final = ltb-false s.final num parts.1 in

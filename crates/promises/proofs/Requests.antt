@@ -5,6 +5,7 @@ use Rattle.frame.specs.declared.types.Service.{Service}
 use Rattle.frame.specs.declared.types.Service.TheVariants.{Sch}
 use Rattle.frame.specs.Frames.{enc}
 use Rattle.frame.specs.Reading.{reading}
+use Rattle.suite.specs.declared.limits.TheConstants.{MAX_DATA}
 use Rattle.suite.specs.declared.types.Role.TheVariants.{Sender}
 use Rattle.suite.specs.Numbers.{role_byte}
 use Rattle.suite.specs.declared.types.KeyKind.TheVariants.{LinkKey}
@@ -57,9 +58,9 @@ module _ (s : Scheme) where
   did_seal plain room (at_select base h) up full given below = clash false refl up
   did_seal plain room (at_secret state k one) up full given below = clash _ (not_linked k) up
   did_seal plain room {m} (at_sch {number} two lo hi) up full given below =
-      let parts = and_parts (not (is_empty plain)) (not (ltb 200 (length plain))) full in
+      let parts = and_parts (not (is_empty plain)) (not (ltb MAX_DATA (length plain))) full in
       let some : 0 < length plain = not_empty plain (not-true (is_empty plain) parts.0) in
-      let most : length plain ≤ 200 = ltb-false 200 (length plain) (not-true (ltb 200 (length plain)) parts.1) in
+      let most : length plain ≤ MAX_DATA = ltb-false MAX_DATA (length plain) (not-true (ltb MAX_DATA (length plain)) parts.1) in
       let low : s.first ≤ number + 1 = omega arith in
       let high : number + 1 ≤ s.final = omega arith in
       let next : number + 1 ≡ (number + 1) + 0 = omega arith in

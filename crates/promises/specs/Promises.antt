@@ -1,6 +1,8 @@
 -- What every run of calls keeps, and what two link sessions under equal link keys keep.
 use Rattle.std.specs.Prelude.{◌≡◌, ◌≢◌, ℕ, ◌+◌, ◌≤◌, ◌⊎◌, true, false, List, [], ◌∷◌, ◌++◌, map, length, Some, Err, Result}
 use Rattle.std.specs.List.{AllByRecursion}
+use Rattle.buffers.specs.declared.limits.TheConstants.{MAX_FRAME, MAX_PAYLOAD}
+use Rattle.suite.specs.declared.limits.TheConstants.{MAX_DATA}
 use Rattle.suite.specs.declared.types.Role.{Role}
 use Rattle.suite.specs.declared.types.KeyKind.TheVariants.{SharedSecret, LinkKey}
 use Rattle.suite.specs.declared.types.Denial.{Denial}
@@ -78,14 +80,14 @@ pub record IsWellAsked {A : Type 0} (answer : Result A Denial) : Type 0 where
 
 -- a key that can be asked for check values, for a link key and for its value
 pub record ServesAsSecret (s : Scheme) (means : Meaning) (key : ℕ) : Type 0 where
-  pub check : (role : Role) (room : ℕ) → 255 ≤ room → IsWellAsked (check_result s means key (role_byte role) room)
+  pub check : (role : Role) (room : ℕ) → MAX_FRAME ≤ room → IsWellAsked (check_result s means key (role_byte role) room)
   pub link : IsWellAsked (derive_result s means key)
   pub value : (room : ℕ) → 16 ≤ room → IsWellAsked (reveal_result means key room)
 
--- a key that can be asked to seal up to 200 bytes under any number up to the last, and to open any payload that a frame has room for
+-- a key that can be asked to seal up to MAX_DATA bytes under any number up to the last, and to open any payload that a frame has room for
 pub record ServesAsLink (s : Scheme) (means : Meaning) (key : ℕ) : Type 0 where
-  pub seal : (role : Role) (n : ℕ) (plain : List ℕ) (room : ℕ) → length plain ≤ 200 → n ≤ s.final → 255 ≤ room → IsWellAsked (seal_result s means key (role_byte role) n plain room)
-  pub unseal : (payload : List ℕ) (room : ℕ) → length payload ≤ 254 → 255 ≤ room → IsWellAsked (open_result s means key payload room)
+  pub seal : (role : Role) (n : ℕ) (plain : List ℕ) (room : ℕ) → length plain ≤ MAX_DATA → n ≤ s.final → MAX_FRAME ≤ room → IsWellAsked (seal_result s means key (role_byte role) n plain room)
+  pub unseal : (payload : List ℕ) (room : ℕ) → length payload ≤ MAX_PAYLOAD → MAX_FRAME ≤ room → IsWellAsked (open_result s means key payload room)
 
 -- Whatever a call asks of the suite, in the state that the entity is in, is not denied as unfit or unknown. What a call does is defined without
 -- denials, by the values of live keys: it is with these that the suite answers.
@@ -94,7 +96,7 @@ pub record AsksWell (s : Scheme) (m : Model) : Type 0 where
   -- the keys that a call works with are live
   pub live : HasLiveKeys m.means m.state m.secret m.link
   -- invoke and ACT_REQ ask for an offer, ACT_REQ and ACT_RES for an agreement; ACT_RES brings no seed, so one is kept
-  pub offer : (seed : List ℕ) (room : ℕ) → length seed ≡ 16 → 255 ≤ room → IsWellAsked (offer_result s m.means seed room)
+  pub offer : (seed : List ℕ) (room : ℕ) → length seed ≡ 16 → MAX_FRAME ≤ room → IsWellAsked (offer_result s m.means seed room)
   pub agreement : (seed offer : List ℕ) (role : Role) → length seed ≡ 16 → IsWellAsked (agree_result s m.means seed offer (role_byte role))
   pub kept_seed : m.state ≡ Select → length m.seed ≡ 16
   -- the call that agrees may ask at once for a check value of the new secret

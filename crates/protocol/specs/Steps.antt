@@ -1,12 +1,14 @@
 -- What a message does in each state.
 use Rattle.std.specs.Prelude.{◌≡◌, ℕ, ◌+◌, ◌≤◌, Bool, true, false, cond, not, ◌&&◌, ◌||◌, List, [], length, Some, None, Ok, Err, Option, Result, IfOk, IfErr, ◌==◌, nat_lt}
 use Rattle.std.specs.Str.{bytes_eq}
+use Rattle.buffers.specs.declared.limits.TheConstants.{MAX_FRAME}
 use Rattle.buffers.specs.Buffers.{with_front}
 use Rattle.frame.specs.declared.types.Service.{Service}
 use Rattle.frame.specs.declared.types.Service.TheVariants.{Sse, Sch}
 use Rattle.frame.specs.declared.faults.CodecFault.{CodecFault}
 use Rattle.frame.specs.Numbers.{service_code}
 use Rattle.frame.specs.Frames.{Contents, act_req, act_res, vfy_req, vfy_res, enc, tmn, error, FrameParts, wire_bytes}
+use Rattle.suite.specs.declared.limits.TheConstants.{MAX_DATA}
 use Rattle.suite.specs.declared.types.Role.{Role}
 use Rattle.suite.specs.declared.types.Role.TheVariants.{Sender, Recipient}
 use Rattle.suite.specs.declared.types.KeyKind.TheVariants.{SharedSecret, LinkKey}
@@ -55,7 +57,7 @@ pub record HasEffect {E : Type 0} (before : Model) (effect : Effect E) (after : 
   pub buffer : new ≡ with_front effect.reply old
   pub untouched : IfErr result (λ e. (after ≡ before) × (new ≡ old))
   pub within : IfOk result (λ o. o.length ≤ length old)
-  pub short : IfOk result (λ o. o.length ≤ 255)
+  pub short : IfOk result (λ o. o.length ≤ MAX_FRAME)
 
 -- the step of a message
 abbrev pub Step : Type 0
@@ -177,7 +179,7 @@ is_empty xs = length xs == 0
 
 -- how many bytes the data of a record has
 abbrev pub is_record_length : ℕ → Bool
-is_record_length n = not (n == 0) && not (nat_lt 200 n)
+is_record_length n = not (n == 0) && not (nat_lt MAX_DATA n)
 
 -- The sequence check of role, number and data length: whether the record is a new one. The same number again is dropped, whatever the role; then
 -- comes S5 for one's own role, and Q1 for a number that is not the next or above the last.

@@ -5,6 +5,7 @@ ghost use Rattle.suite.specs.Meanings.{value_in, with_last};
 ghost use Rattle.quota.specs.Allowances.{limited_meaning, quota_meaning, keys_made};
 ghost use Rattle.quota.specs.AllowanceProofs.{limited_meaning-formed};
 
+use buffers::MAX_FRAME;
 use suite::{Denial, HasMeaning, Layer, Role, Suite};
 
 /// A suite with an allowance of further keys.
@@ -50,7 +51,7 @@ impl<S: Suite> Quota<S> {
     fn derive_denial(&self, key: u32) -> Denial
         ensures { Err result ≡ derive_result S.scheme (limited_meaning (S.meaning self.now.below) 0) key }
     {
-        let mut scratch = [0; 255];
+        let mut scratch = [0; MAX_FRAME];
         if self.is_secret(key, &mut scratch) {
             Denial::Spent
         } else {
@@ -60,9 +61,9 @@ impl<S: Suite> Quota<S> {
 
     // Whether a live shared secret has that serial: then, and only then, there is a check value of it. The scratch bytes, zeros after,
     // are lent because a contract cannot speak of a local.
-    fn is_secret(&self, key: u32, scratch: &mut [u8; 255]) -> bool
+    fn is_secret(&self, key: u32, scratch: &mut [u8; MAX_FRAME]) -> bool
         ensures answer { result ≡ is_some (value_in (S.meaning self.now.below).live SharedSecret key) }
-        ensures cleared { scratch.new ≡ replicate 255 0 }
+        ensures cleared { scratch.new ≡ replicate MAX_FRAME 0 }
     {
         let found = self.below.check(key, Role::Sender.byte(), scratch).is_ok();
         scratch.fill(0);

@@ -1,5 +1,6 @@
 -- The entries of a transcript, as the definitions have them.
 use Rattle.std.specs.Prelude.{◌≡◌, ℕ, ◌≤◌, Bool, false, ◌==◌, List, length, filter, [], ◌∷◌, ◌++◌, reverse, take, Some, None, Ok, Err, Option, Result}
+use Rattle.suite.specs.declared.limits.TheConstants.{MAX_DATA}
 use Rattle.protocol.specs.Calls.{Call, invoke, send, retrieve_data, retrieve_secret, terminate, frame, release}
 use Rattle.protocol.specs.declared.outcomes.Outcome.{Outcome}
 use Rattle.protocol.specs.declared.refusals.Refusal.{Refusal}
@@ -78,7 +79,7 @@ is_hand_over (Some x) = is_handed (direction_of x.direction)
 -- a send that is answered had data that a record holds
 abbrev pub FitsSend : Call → Result Outcome Refusal → Type 0
 FitsSend (invoke service pid seed room) answer = Unit {0}
-FitsSend (send plain room) (Ok o) = length plain ≤ 200
+FitsSend (send plain room) (Ok o) = length plain ≤ MAX_DATA
 FitsSend (send plain room) (Err r) = Unit {0}
 FitsSend (retrieve_data room) answer = Unit {0}
 FitsSend (retrieve_secret room) answer = Unit {0}

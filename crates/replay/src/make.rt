@@ -7,6 +7,7 @@ ghost use Rattle.replay.specs.Entries.{written_bytes, bytes_written};
 
 use super::entry::Written;
 use super::logged::Logged;
+use buffers::MAX_FRAME;
 use entity::{Entity, Slip};
 use protocol::{Outcome, Refusal};
 use suite::Suite;
@@ -14,7 +15,7 @@ use suite::Suite;
 // The bytes that a call wrote, by the length that it answered.
 fn written(answer: Result<Outcome, Refusal>, buffer: &[u8]) -> Written
     requires within { IfOk answer (λ o. o.length ≤ length buffer.now) }
-    requires short { IfOk answer (λ o. o.length ≤ 255) }
+    requires short { IfOk answer (λ o. o.length ≤ MAX_FRAME) }
     ensures { written_bytes result ≡ bytes_written answer buffer.now }
 {
     match answer {

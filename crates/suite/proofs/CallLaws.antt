@@ -1,6 +1,8 @@
 -- What a suite answers that is asked within its limits, with a key that is live.
 use Rattle.std.proofs.Common.{◌≡◌, ℕ, ◌≤◌, true, false, cond, not, ◌||◌, eqb, ltb, List, length, is_some, Some, None, Ok, Err, Option, Result, refl, ap, ◌∙◌}
 use Rattle.std.proofs.lemmas.Bool.{eq-eqb, le-ltb, or_from, not_from_true, cond-false}
+use Rattle.buffers.specs.declared.limits.TheConstants.{MAX_FRAME, MAX_PAYLOAD}
+use Rattle.suite.specs.declared.limits.TheConstants.{MAX_DATA, MAX_NUMBER}
 use Rattle.suite.specs.declared.types.Role.{Role}
 use Rattle.suite.specs.declared.types.Role.TheVariants.{Sender, Recipient}
 use Rattle.suite.specs.declared.types.KeyKind.{KeyKind}
@@ -21,8 +23,8 @@ role_ok Recipient = refl
 role_fits : (r : Role) → not (is_role (role_byte r)) ≡ false
 role_fits r = not_from_true (is_role (role_byte r)) (role_ok r)
 
-pub room_enough : (room : ℕ) → 255 ≤ room → is_short_buffer room ≡ false
-room_enough room h = le-ltb room 255 h
+pub room_enough : (room : ℕ) → MAX_FRAME ≤ room → is_short_buffer room ≡ false
+room_enough room h = le-ltb room MAX_FRAME h
 
 seed_fits : (seed : List ℕ) → length seed ≡ 16 → is_wrong_seed seed ≡ false
 seed_fits seed e = not_from_true (eqb (length seed) 16) (eq-eqb (length seed) 16 e)
@@ -42,7 +44,7 @@ live_formed m kind key f h = found IsBytes16 m.live kind key (value_of m.live ki
 with_value : {A : Type 0} (m : Meaning) (kind : KeyKind) (key : ℕ) (f : List ℕ → Result A Denial) → is_some (value_in m.live kind key) ≡ true → value_or_unknown f (value_in m.live kind key) ≡ f (value_of m.live kind key)
 with_value m kind key f h = ap (value_or_unknown f) (live_value m kind key h)
 
-pub offered_is : (s : Scheme) (m : Meaning) (seed : List ℕ) (room : ℕ) → length seed ≡ 16 → 255 ≤ room → offer_result s m seed room ≡ Ok (s.offer_of (keyring_of m) seed)
+pub offered_is : (s : Scheme) (m : Meaning) (seed : List ℕ) (room : ℕ) → length seed ≡ 16 → MAX_FRAME ≤ room → offer_result s m seed room ≡ Ok (s.offer_of (keyring_of m) seed)
 offered_is s m seed room e h = cond-false (is_wrong_seed seed || is_short_buffer room) _ _ (or_from (is_wrong_seed seed) (is_short_buffer room) (seed_fits seed e) (room_enough room h))
 
 pub agreed_is : (s : Scheme) (m : Meaning) (seed offer : List ℕ) (role : Role) → length seed ≡ 16 → agree_result s m seed offer (role_byte role) ≡ cond (not (s.fit_of (keyring_of m) offer)) (Err BadOffer) (cond (is_spent m) (Err Spent) (Ok (s.secret_of (keyring_of m) (role_byte role) seed offer)))
@@ -51,7 +53,7 @@ agreed_is s m seed offer role e = cond-false (is_wrong_seed seed || not (is_role
 pub derived_is : (s : Scheme) (m : Meaning) (key : ℕ) → is_some (value_in m.live SharedSecret key) ≡ true → derive_result s m key ≡ cond (is_spent m) (Err Spent) (Ok (s.link_of (keyring_of m) key (value_of m.live SharedSecret key)))
 derived_is s m key h = with_value m SharedSecret key _ h
 
-pub checked_is : (s : Scheme) (m : Meaning) (key : ℕ) (role : Role) (room : ℕ) → 255 ≤ room → is_some (value_in m.live SharedSecret key) ≡ true → check_result s m key (role_byte role) room ≡ Ok (s.check_of (keyring_of m) key (value_of m.live SharedSecret key) (role_byte role))
+pub checked_is : (s : Scheme) (m : Meaning) (key : ℕ) (role : Role) (room : ℕ) → MAX_FRAME ≤ room → is_some (value_in m.live SharedSecret key) ≡ true → check_result s m key (role_byte role) room ≡ Ok (s.check_of (keyring_of m) key (value_of m.live SharedSecret key) (role_byte role))
 checked_is s m key role room h k =
     cond-false (not (is_role (role_byte role)) || is_short_buffer room) _ _ (or_from (not (is_role (role_byte role))) (is_short_buffer room) (role_fits role) (room_enough room h))
     ∙ with_value m SharedSecret key _ k
@@ -59,17 +61,17 @@ checked_is s m key role room h k =
 pub revealed_is : (m : Meaning) (key room : ℕ) → 16 ≤ room → is_some (value_in m.live SharedSecret key) ≡ true → reveal_result m key room ≡ Ok (value_of m.live SharedSecret key)
 revealed_is m key room h k = cond-false (ltb room 16) _ _ (le-ltb room 16 h) ∙ with_value m SharedSecret key _ k
 
-pub sealed_is : (s : Scheme) (m : Meaning) (key : ℕ) (role : Role) (n : ℕ) (plain : List ℕ) (room : ℕ) → length plain ≤ 200 → n ≤ 16777215 → 255 ≤ room → is_some (value_in m.live LinkKey key) ≡ true
+pub sealed_is : (s : Scheme) (m : Meaning) (key : ℕ) (role : Role) (n : ℕ) (plain : List ℕ) (room : ℕ) → length plain ≤ MAX_DATA → n ≤ MAX_NUMBER → MAX_FRAME ≤ room → is_some (value_in m.live LinkKey key) ≡ true
     → seal_result s m key (role_byte role) n plain room ≡ Ok (s.seal_of (keyring_of m) key (value_of m.live LinkKey key) (role_byte role) n plain)
 sealed_is s m key role n plain room long low h k =
-    let first = or_from (not (is_role (role_byte role))) (ltb 200 (length plain)) (role_fits role) (le-ltb 200 (length plain) long) in
-    let second = or_from (not (is_role (role_byte role)) || ltb 200 (length plain)) (ltb 16777215 n) first (le-ltb 16777215 n low) in
-    cond-false (not (is_role (role_byte role)) || ltb 200 (length plain) || ltb 16777215 n || is_short_buffer room) _ _
-    (or_from (not (is_role (role_byte role)) || ltb 200 (length plain) || ltb 16777215 n) (is_short_buffer room) second (room_enough room h))
+    let first = or_from (not (is_role (role_byte role))) (ltb MAX_DATA (length plain)) (role_fits role) (le-ltb MAX_DATA (length plain) long) in
+    let second = or_from (not (is_role (role_byte role)) || ltb MAX_DATA (length plain)) (ltb MAX_NUMBER n) first (le-ltb MAX_NUMBER n low) in
+    cond-false (not (is_role (role_byte role)) || ltb MAX_DATA (length plain) || ltb MAX_NUMBER n || is_short_buffer room) _ _
+    (or_from (not (is_role (role_byte role)) || ltb MAX_DATA (length plain) || ltb MAX_NUMBER n) (is_short_buffer room) second (room_enough room h))
     ∙ with_value m LinkKey key _ k
 
-pub opened_is : (s : Scheme) (m : Meaning) (key : ℕ) (payload : List ℕ) (room : ℕ) → length payload ≤ 254 → 255 ≤ room → is_some (value_in m.live LinkKey key) ≡ true
+pub opened_is : (s : Scheme) (m : Meaning) (key : ℕ) (payload : List ℕ) (room : ℕ) → length payload ≤ MAX_PAYLOAD → MAX_FRAME ≤ room → is_some (value_in m.live LinkKey key) ≡ true
     → open_result s m key payload room ≡ Ok (s.open_of (keyring_of m) key (value_of m.live LinkKey key) payload)
 opened_is s m key payload room long h k =
-    cond-false (ltb 254 (length payload) || is_short_buffer room) _ _ (or_from (ltb 254 (length payload)) (is_short_buffer room) (le-ltb 254 (length payload) long) (room_enough room h))
+    cond-false (ltb MAX_PAYLOAD (length payload) || is_short_buffer room) _ _ (or_from (ltb MAX_PAYLOAD (length payload)) (is_short_buffer room) (le-ltb MAX_PAYLOAD (length payload) long) (room_enough room h))
     ∙ with_value m LinkKey key _ k

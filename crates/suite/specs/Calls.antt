@@ -1,6 +1,8 @@
 -- What each call of a suite answers and writes, and what the suite means after it.
 use Rattle.std.specs.Prelude.{ℕ, ◌+◌, Bool, cond, not, ◌||◌, List, [], ◌∷◌, ◌++◌, length, Some, None, Ok, Err, Option, Result, ◌==◌, nat_lt}
+use Rattle.buffers.specs.declared.limits.TheConstants.{MAX_FRAME, MAX_PAYLOAD}
 use Rattle.buffers.specs.Buffers.{with_front}
+use Rattle.suite.specs.declared.limits.TheConstants.{MAX_DATA, MAX_NUMBER}
 use Rattle.suite.specs.declared.types.KeyKind.{KeyKind}
 use Rattle.suite.specs.declared.types.KeyKind.TheVariants.{SharedSecret, LinkKey}
 use Rattle.suite.specs.declared.types.Denial.{Denial}
@@ -32,7 +34,7 @@ abbrev pub is_wrong_seed : List ℕ → Bool
 is_wrong_seed seed = not (length seed == 16)
 
 abbrev pub is_short_buffer : ℕ → Bool
-is_short_buffer room = nat_lt room 255
+is_short_buffer room = nat_lt room MAX_FRAME
 
 -- no further key: two are live, or the serials are used up
 abbrev pub is_spent : Meaning → Bool
@@ -72,13 +74,13 @@ reveal_result m key room = cond (nat_lt room 16) (Err Unfit) (value_or_unknown O
 
 abbrev pub seal_result : Scheme → Meaning → ℕ → ℕ → ℕ → List ℕ → ℕ → Result (List ℕ) Denial
 seal_result s m key role n plain room =
-    cond (not (is_role role) || nat_lt 200 (length plain) || nat_lt 16777215 n || is_short_buffer room) (Err Unfit)
+    cond (not (is_role role) || nat_lt MAX_DATA (length plain) || nat_lt MAX_NUMBER n || is_short_buffer room) (Err Unfit)
     (value_or_unknown (λ v. Ok (s.seal_of (keyring_of m) key v role n plain)) (value_in m.live LinkKey key))
 
 -- role, number and data of a payload; none if it is not good
 abbrev pub open_result : Scheme → Meaning → ℕ → List ℕ → ℕ → Result (Option (ℕ × ℕ × List ℕ)) Denial
 open_result s m key payload room =
-    cond (nat_lt 254 (length payload) || is_short_buffer room) (Err Unfit)
+    cond (nat_lt MAX_PAYLOAD (length payload) || is_short_buffer room) (Err Unfit)
     (value_or_unknown (λ v. Ok (s.open_of (keyring_of m) key v payload)) (value_in m.live LinkKey key))
 
 -- role, number and data length together

@@ -1,5 +1,6 @@
 -- What one kind of suite computes, and the laws that every kind keeps.
 use Rattle.std.specs.Prelude.{◌≡◌, ℕ, ◌+◌, ◌<◌, ◌≤◌, Bool, true, ◌||◌, List, length, Some, Option, ◌==◌}
+use Rattle.suite.specs.declared.limits.TheConstants.{MAX_DATA, MAX_NUMBER}
 use Rattle.suite.specs.declared.types.Role.TheVariants.{Sender, Recipient}
 use Rattle.suite.specs.declared.types.KindNumbers.{KindNumbers}
 use Rattle.suite.specs.Meanings.{IsBytes, IsBytes16, Keyring, IsFormed}
@@ -43,10 +44,10 @@ numbers_of s = record {
 abbrev pub is_role : ℕ → Bool
 is_role r = r == role_byte Sender || r == role_byte Recipient
 
--- data and number of a record that can be sealed: 1 to 200 bytes, from the first number to the last
+-- data and number of a record that can be sealed: 1 to MAX_DATA bytes, from the first number to the last
 pub record IsSealable (s : Scheme) (n : ℕ) (plain : List ℕ) : Type 0 where
   pub some : 0 < length plain
-  pub most : length plain ≤ 200
+  pub most : length plain ≤ MAX_DATA
   pub bytes : IsBytes plain
   pub low : s.first ≤ n
   pub high : n ≤ s.final
@@ -63,7 +64,7 @@ pub record IsLawful (s : Scheme) : Type 0 where
   pub check_bound : s.check_length ≤ 32
   pub overhead_bound : s.overhead ≤ 32
   pub first_below : s.first < s.final
-  pub final_bound : s.final ≤ 16777215
+  pub final_bound : s.final ≤ MAX_NUMBER
   -- lengths, and that bytes are bytes
   pub offer_long : (k : Keyring) (seed : List ℕ) → IsFormed k → IsBytes16 seed → length (s.offer_of k seed) ≡ s.offer_length
   pub offer_bytes : (k : Keyring) (seed : List ℕ) → IsFormed k → IsBytes16 seed → IsBytes (s.offer_of k seed)

@@ -1,5 +1,5 @@
 -- Proofs, which need not be read: a suite of a lawful kind keeps the laws of suites.
-use Rattle.std.specs.Prelude.{◌≡◌, ℕ, ◌+◌, ◌≤◌, List, length}
+use Rattle.std.specs.Prelude.{◌≡◌, ℕ, ◌+◌, ◌^◌, ◌<◌, ◌≤◌, List, length}
 use Rattle.std.proofs.Common.{arith, lit≤}
 use Rattle.std.proofs.lemmas.Bool.{eq-eqb, eqb-true}
 use Rattle.suite.specs.declared.types.Role.TheVariants.{Sender, Recipient}
@@ -37,7 +37,7 @@ lawful_scheme k s =
       seal_long = λ keyring value plain serial role n f v ok. seal_result-length value role n plain v;
     }
   where
-    most : {n : ℕ} → n ≤ k.final → n ≤ 16777215
+    most : {n : ℕ} → n ≤ k.final → n < 2 ^ 32
     most h = let b = s.final_bound in omega arith
 
     -- the two peers' secrets, their suites under one root

@@ -1,5 +1,6 @@
 -- A kind of suite by what it computes of roots and of the values of keys: offers are seeds, payloads are as `Payloads` has them.
 use Rattle.std.specs.Prelude.{◌≡◌, ℕ, ◌+◌, ◌<◌, ◌≤◌, true, List, length, ◌==◌}
+use Rattle.suite.specs.declared.limits.TheConstants.{MAX_NUMBER}
 use Rattle.suite.specs.Meanings.{IsBytes, IsBytes16}
 use Rattle.suite.specs.Numbers.{role_byte}
 use Rattle.suite.specs.declared.types.Role.TheVariants.{Sender, Recipient}
@@ -48,7 +49,7 @@ pub record IsLawfulKind (k : KindFunctions) : Type 0 where
   pub check_bound : k.check_length ≤ 16
   pub field_bound : k.field_length ≤ 16
   pub final_low : 0 < k.final
-  pub final_bound : k.final ≤ 16777215
+  pub final_bound : k.final ≤ MAX_NUMBER
   pub secret_is : (root seed offer : List ℕ) (role : ℕ) → IsBytes16 root → IsBytes16 seed → IsBytes16 offer → is_role role ≡ true → IsBytes16 (k.secret_of root role seed offer)
   pub agrees : (root one other : List ℕ) → IsBytes16 root → IsBytes16 one → IsBytes16 other → k.secret_of root (role_byte Sender) one other ≡ k.secret_of root (role_byte Recipient) other one
   pub check_long : (value : List ℕ) (role : ℕ) → IsBytes16 value → is_role role ≡ true → length (k.check_of value role) ≡ k.check_length

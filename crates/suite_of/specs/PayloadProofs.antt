@@ -1,5 +1,5 @@
 -- Proofs, which need not be read: the length and the bytes of payloads, and that one that was written is read back.
-use Rattle.std.specs.Prelude.{◌≡◌, ℕ, ◌+◌, ◌-◌, ◌*◌, ◌/◌, ◌%◌, ◌<◌, ◌≤◌, true, ◌&&◌, List, length, drop, Some, None, Option, nat_le, slice_index}
+use Rattle.std.specs.Prelude.{◌≡◌, ℕ, ◌+◌, ◌-◌, ◌*◌, ◌/◌, ◌%◌, ◌^◌, ◌<◌, true, ◌&&◌, List, length, drop, Some, None, Option, nat_le, slice_index}
 use Rattle.std.specs.Option.{option_map}
 use Rattle.std.specs.Str.{bytes_eq}
 use Rattle.std.proofs.Common.{sym, ap, ◌∙◌, arith, length-append}
@@ -21,7 +21,7 @@ pub closed-length : (field : List ℕ → List ℕ) (w : ℕ) (body : List ℕ) 
 closed-length field w body e = length-append body (field body) ∙ ap (λ k. length body + k) e
 
 -- four bytes of a number give the number
-number_back : (n : ℕ) → n ≤ 16777215 → (((n / 16777216) % 256) * 16777216 + ((n / 65536) % 256) * 65536 + ((n / 256) % 256) * 256) + n % 256 ≡ n
+number_back : (n : ℕ) → n < 2 ^ 32 → (((n / 16777216) % 256) * 16777216 + ((n / 65536) % 256) * 65536 + ((n / 256) % 256) * 256) + n % 256 ≡ n
 number_back n h = omega arith
 
 pub reads_good : (w : ℕ) (field : List ℕ → List ℕ) (stream : ℕ → ℕ → ℕ → ℕ) (p : List ℕ) → is_good w field p ≡ true → payload_parts w field stream p ≡ Some (slice_index p 0, number_at p, xor_stream (stream (slice_index p 0) (number_at p)) 0 (drop 5 (all_but_last w p)))
@@ -32,7 +32,7 @@ same_read r {m = m} {xs = xs} e f = ap (λ z. Some (r, z, xs)) e ∙ ap (λ z. S
 
 -- a payload that was written is read back
 pub reads_back : (w : ℕ) (field : List ℕ → List ℕ) (stream : ℕ → ℕ → ℕ → ℕ) (role n : ℕ) (plain : List ℕ)
-    → length (field (payload_body (stream role n) role n plain)) ≡ w → is_role role ≡ true → n ≤ 16777215
+    → length (field (payload_body (stream role n) role n plain)) ≡ w → is_role role ≡ true → n < 2 ^ 32
     → payload_parts w field stream (with_field field (payload_body (stream role n) role n plain)) ≡ Some (role, n, plain)
 reads_back w field stream role n plain long ok h =
     let body = payload_body (stream role n) role n plain in

@@ -3,6 +3,7 @@ ghost use Rattle.std.specs.Prelude.{Some};
 ghost use Rattle.trial.specs.Words.{key_text};
 
 use super::stopped::Stopped;
+use buffers::MAX_FRAME;
 use std::{fmt, io};
 use suite::{KeyKind, Role, Suite};
 
@@ -59,7 +60,7 @@ impl<'a, S: Suite> Peer<'a, S> {
         self.says(action, &hex_text::encode(self.rt.alloc(), bytes)?)
     }
 
-    pub(super) fn offer<'b>(&self, out: &'b mut [u8; 255]) -> Result<&'b [u8], Stopped> {
+    pub(super) fn offer<'b>(&self, out: &'b mut [u8; MAX_FRAME]) -> Result<&'b [u8], Stopped> {
         let length = self.suite.offer(&self.seed(), out)?;
         let offer = &out[..length];
         self.says_bytes("offers", offer)?;
@@ -78,7 +79,7 @@ impl<'a, S: Suite> Peer<'a, S> {
 
     // Both peers compute the Sender's check value.
     pub(super) fn check(&self, secret: Key) -> Result<(), Stopped> {
-        let mut out = [0; 255];
+        let mut out = [0; MAX_FRAME];
         let length = self
             .suite
             .check(secret.serial, Role::Sender.byte(), &mut out)?;
@@ -100,7 +101,7 @@ impl<'a, S: Suite> Peer<'a, S> {
         &self,
         link: Key,
         record: &[u8],
-        out: &'b mut [u8; 255],
+        out: &'b mut [u8; MAX_FRAME],
     ) -> Result<&'b [u8], Stopped> {
         let length = self
             .suite
@@ -111,7 +112,7 @@ impl<'a, S: Suite> Peer<'a, S> {
     }
 
     pub(super) fn open(&self, link: Key, payload: &[u8]) -> Result<(), Stopped> {
-        let mut out = [0; 255];
+        let mut out = [0; MAX_FRAME];
         match self.suite.open(link.serial, payload, &mut out)? {
             Some((_role, _number, length)) => self.says_bytes("opens", &out[..length])?,
             None => self.says_bytes("finds not good", payload)?,

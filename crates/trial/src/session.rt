@@ -1,6 +1,7 @@
 // One session between two peers.
 use super::peer::{Key, Peer};
 use super::stopped::Stopped;
+use buffers::MAX_FRAME;
 use suite::Suite;
 
 const RECORD: &[u8] = b"chlorine 0.6 mg/l";
@@ -10,8 +11,8 @@ fn agree_both<S: Suite, T: Suite>(
     sender: &mut Peer<S>,
     recipient: &mut Peer<T>,
 ) -> Result<(Key, Key), Stopped> {
-    let mut sent = [0; 255];
-    let mut received = [0; 255];
+    let mut sent = [0; MAX_FRAME];
+    let mut received = [0; MAX_FRAME];
     let sent = sender.offer(&mut sent)?;
     let received = recipient.offer(&mut received)?;
     let own = sender.agree(received)?;
@@ -26,7 +27,7 @@ fn protect<S: Suite, T: Suite>(
     recipient: &Peer<T>,
     their_link: Key,
 ) -> Result<(), Stopped> {
-    let mut payload = [0; 255];
+    let mut payload = [0; MAX_FRAME];
     let payload = sender.seal(link, RECORD, &mut payload)?;
     recipient.open(their_link, payload)
 }

@@ -5,6 +5,7 @@ ghost use Rattle.entity.specs.Views.{view};
 use super::Entity;
 use super::suite_calls::agree;
 use crate::bytes::put;
+use buffers::MAX_FRAME;
 use frame::{Body, Service};
 use protocol::{Confirmation, MachineFault, Outcome, State, SuiteFault, in_state};
 use suite::{Role, Suite};
@@ -19,7 +20,7 @@ impl<S: Suite> Entity<S> {
         seed: &[u8; 16],
         reply: &mut [u8],
     ) -> Result<Outcome, MachineFault>
-        requires { 255 ≤ length reply.old }
+        requires { MAX_FRAME ≤ length reply.old }
         ensures { HasEffect (view S.meaning self.old) (on_act_req S.scheme (view S.meaning self.old) service pid offer.now seed.now) (view S.meaning self.new) result reply.old reply.new }
     {
         if pid != S::numbers().pid {
@@ -33,7 +34,7 @@ impl<S: Suite> Entity<S> {
         self.service = service;
         self.role = Role::Recipient;
         self.secret = made;
-        let mut scratch = [0; 255];
+        let mut scratch = [0; MAX_FRAME];
         let own = self.offer(seed, &mut scratch);
         let length = put(service, Body::ActRes(own), reply);
         Ok(Outcome::ongoing(Confirmation::Nothing, length, made))
@@ -45,7 +46,7 @@ impl<S: Suite> Entity<S> {
         offer: &[u8],
         reply: &mut [u8],
     ) -> Result<Outcome, MachineFault>
-        requires { 255 ≤ length reply.old }
+        requires { MAX_FRAME ≤ length reply.old }
         ensures { HasEffect (view S.meaning self.old) (on_act_res S.scheme (view S.meaning self.old) offer.now) (view S.meaning self.new) result reply.old reply.new }
     {
         let made = in_state(
@@ -54,7 +55,7 @@ impl<S: Suite> Entity<S> {
         )?;
         self.state = State::EstablishedSender;
         self.secret = made;
-        let mut scratch = [0; 255];
+        let mut scratch = [0; MAX_FRAME];
         let check = self.check_value(Role::Sender, &mut scratch);
         let length = put(self.service, Body::VfyReq(check), reply);
         Ok(Outcome::ongoing(Confirmation::Nothing, length, made))

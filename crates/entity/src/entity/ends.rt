@@ -7,6 +7,7 @@ ghost use Rattle.entity.specs.Views.{view};
 use super::Entity;
 use crate::bytes::put;
 use crate::held::Held;
+use buffers::MAX_FRAME;
 use frame::{Body, Service};
 use protocol::{Confirmation, Destroyed, Fault, Outcome, State};
 use suite::Suite;
@@ -72,7 +73,7 @@ impl<S: Suite> Entity<S> {
 
     // Answers a fault by an ERROR, and ends the session.
     pub(super) fn fail(&mut self, sep: u8, fault: Fault, reply: &mut [u8]) -> Outcome
-        requires room { 255 ≤ length reply.old }
+        requires room { MAX_FRAME ≤ length reply.old }
         requires message { fault.message ≡ sep % 16 }
         ensures { HasEffect (view S.meaning self.old) (error_effect (view S.meaning self.old) sep fault.machine) (view S.meaning self.new) (Ok result) reply.old reply.new }
     {

@@ -11,6 +11,7 @@ ghost use Rattle.entity.specs.ResultViews.{reading_parts, machine_result};
 use super::Entity;
 use crate::ancillary::{Ancillary, Fitted};
 use crate::bytes::has_room;
+use buffers::{MAX_FRAME, MAX_PAYLOAD};
 use frame::{Body, CodecFault, Message, ReadError, read};
 use protocol::{Fault, Outcome, Refusal, State, at_message};
 use suite::Suite;
@@ -30,7 +31,7 @@ impl<S: Suite> Entity<S> {
     // What is heard of a frame, or why it is refused.
     fn admit<'a>(&self, frame: &'a [u8]) -> Result<Result<Message<'a>, CodecFault>, Refusal>
         ensures heard { result_map_both reading_parts (λ e. e) result ≡ admission (view S.meaning self.now) (reading frame.now) }
-        ensures short { IfOk result (λ h. IfOk h (λ m. length (bytes_after_sep (parts_of m).contents) ≤ 254)) }
+        ensures short { IfOk result (λ h. IfOk h (λ m. length (bytes_after_sep (parts_of m).contents) ≤ MAX_PAYLOAD)) }
     {
         match read(frame) {
             Ok(message) if self.blocks(&message) => Err(Refusal::DataHeld),
@@ -48,8 +49,8 @@ impl<S: Suite> Entity<S> {
         beside: Fitted<'_>,
         reply: &mut [u8],
     ) -> Result<Outcome, Fault>
-        requires room { 255 ≤ length reply.old }
-        requires short { IfOk heard (λ m. length (bytes_after_sep (parts_of m).contents) ≤ 254) }
+        requires room { MAX_FRAME ≤ length reply.old }
+        requires short { IfOk heard (λ m. length (bytes_after_sep (parts_of m).contents) ≤ MAX_PAYLOAD) }
         ensures step { HasEffect (view S.meaning self.old) (reading_effect S.scheme (view S.meaning self.old) (fitted_ancillary beside.entry) (reading_parts heard.entry)) (view S.meaning self.new) (machine_result result) reply.old reply.new }
         ensures message { IfErr result (λ f. f.message ≡ sep % 16) }
     {

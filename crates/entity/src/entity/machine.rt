@@ -7,6 +7,7 @@ ghost use Rattle.entity.specs.ResultViews.{reading_parts, session_result};
 
 use super::Entity;
 use crate::ancillary::Fitted;
+use buffers::{MAX_FRAME, MAX_PAYLOAD};
 use frame::{Body, CodecFault, Message, Service};
 use protocol::{Cause, Confirmation, FaultInState, MachineFault, Outcome, State, in_state};
 use suite::Suite;
@@ -40,8 +41,8 @@ impl<S: Suite> Entity<S> {
         beside: Fitted<'_>,
         reply: &mut [u8],
     ) -> Result<Outcome, MachineFault>
-        requires room { 255 ≤ length reply.old }
-        requires short { IfOk heard (λ m. length (bytes_after_sep (parts_of m).contents) ≤ 254) }
+        requires room { MAX_FRAME ≤ length reply.old }
+        requires short { IfOk heard (λ m. length (bytes_after_sep (parts_of m).contents) ≤ MAX_PAYLOAD) }
         ensures { HasEffect (view S.meaning self.old) (reading_effect S.scheme (view S.meaning self.old) (fitted_ancillary beside.entry) (reading_parts heard.entry)) (view S.meaning self.new) result reply.old reply.new }
     {
         let Message { service, body } = in_state(self.state, heard)?;

@@ -6,14 +6,15 @@ ghost use Rattle.entity.specs.Views.{view};
 use super::Entity;
 use crate::bytes::wipe;
 use crate::held::Held;
+use buffers::{MAX_FRAME, MAX_PAYLOAD};
 use protocol::{Cause, Confirmation, MachineFault, Outcome, SuiteFault, in_state};
-use suite::Suite;
+use suite::{MAX_DATA, Suite};
 
 // How many bytes the data of a record has.
 pub(super) fn is_record_length(length: usize) -> bool
     ensures { result ≡ is_record_length length }
 {
-    (1..=200).contains(&length)
+    (1..=MAX_DATA).contains(&length)
 }
 
 impl<S: Suite> Entity<S> {
@@ -38,9 +39,13 @@ impl<S: Suite> Entity<S> {
     }
 
     // Opens a record in the lent bytes, and keeps its data if it is a new one.
-    fn enter(&mut self, payload: &[u8], scratch: &mut [u8; 255]) -> Result<Outcome, MachineFault>
+    fn enter(
+        &mut self,
+        payload: &[u8],
+        scratch: &mut [u8; MAX_FRAME],
+    ) -> Result<Outcome, MachineFault>
         requires state { has_link self.old.state ≡ true }
-        requires payload { length payload.now ≤ 254 }
+        requires payload { length payload.now ≤ MAX_PAYLOAD }
         ensures { HasEffect (view S.meaning self.old) (on_enc S.scheme (view S.meaning self.old) payload.now) (view S.meaning self.new) result [] [] }
     {
         let opened = in_state(self.state, self.open(payload, scratch))?;
@@ -57,12 +62,12 @@ impl<S: Suite> Entity<S> {
     fn enter_cleanly(
         &mut self,
         payload: &[u8],
-        scratch: &mut [u8; 255],
+        scratch: &mut [u8; MAX_FRAME],
     ) -> Result<Outcome, MachineFault>
         requires state { has_link self.old.state ≡ true }
-        requires payload { length payload.now ≤ 254 }
+        requires payload { length payload.now ≤ MAX_PAYLOAD }
         ensures step { HasEffect (view S.meaning self.old) (on_enc S.scheme (view S.meaning self.old) payload.now) (view S.meaning self.new) result [] [] }
-        ensures cleared { scratch.new ≡ replicate 255 0 }
+        ensures cleared { scratch.new ≡ replicate MAX_FRAME 0 }
     {
         let entered = self.enter(payload, scratch);
         wipe(scratch);
@@ -72,9 +77,9 @@ impl<S: Suite> Entity<S> {
     // Confirmed_SCH: a record. It is never answered by a frame, but by an ERROR.
     pub(super) fn on_enc(&mut self, payload: &[u8]) -> Result<Outcome, MachineFault>
         requires state { has_link self.old.state ≡ true }
-        requires payload { length payload.now ≤ 254 }
+        requires payload { length payload.now ≤ MAX_PAYLOAD }
         ensures { HasEffect (view S.meaning self.old) (on_enc S.scheme (view S.meaning self.old) payload.now) (view S.meaning self.new) result [] [] }
     {
-        self.enter_cleanly(payload, &mut [0; 255])
+        self.enter_cleanly(payload, &mut [0; MAX_FRAME])
     }
 }

@@ -7,6 +7,7 @@ use super::records::is_record_length;
 use crate::bytes::{has_room, put, sixteen, write_front};
 use crate::held::Held;
 use crate::slip::Slip;
+use buffers::MAX_FRAME;
 use frame::{Body, Service};
 use protocol::{Confirmation, Outcome, Refusal, State};
 use suite::{Role, Suite};
@@ -32,7 +33,7 @@ impl<S: Suite> Entity<S> {
                 if pid != S::numbers().pid {
                     return Err(Refusal::OtherPid);
                 }
-                let mut scratch = [0; 255];
+                let mut scratch = [0; MAX_FRAME];
                 let offer = self.offer(seed, &mut scratch);
                 let length = put(service, Body::ActReq(pid, offer), reply);
                 self.state = State::Select;
@@ -61,7 +62,7 @@ impl<S: Suite> Entity<S> {
                     return Err(Refusal::NumberSpent);
                 }
                 let number = self.number + 1;
-                let mut scratch = [0; 255];
+                let mut scratch = [0; MAX_FRAME];
                 let payload = self.seal(number, plain, &mut scratch);
                 let length = put(Service::Sch, Body::Enc(payload), reply);
                 self.number = number;

@@ -1,4 +1,4 @@
-ghost use Rattle.std.specs.Prelude.{◌≡◌, ◌<◌, ◌≤◌, true, length, is_some, IfOk};
+ghost use Rattle.std.specs.Prelude.{◌≡◌, ◌+◌, ◌≤◌, true, length, is_some, IfOk};
 ghost use Rattle.std.specs.Result.{result_map_both};
 ghost use Rattle.suite.specs.declared.types.KeyKind.TheVariants.{SharedSecret, LinkKey};
 ghost use Rattle.suite.specs.Meanings.{keyring_of, value_in};
@@ -9,14 +9,15 @@ ghost use Rattle.entity.specs.Views.{view};
 ghost use Rattle.entity.specs.ResultViews.{record_result};
 
 use super::Entity;
+use buffers::{MAX_FRAME, MAX_PAYLOAD};
 use protocol::SuiteFault;
-use suite::{Denial, Role, Suite};
+use suite::{Denial, MAX_DATA, MAX_NUMBER, Role, Suite};
 
 // What is asked of the suite. Every key that is asked for is live, and all else is within the suite's limits, so it denies nothing but what is a
 // fault of the protocol. What is written lies in the front of the lent bytes.
 
 impl<S: Suite> Entity<S> {
-    pub(super) fn offer<'a>(&self, seed: &[u8; 16], scratch: &'a mut [u8; 255]) -> &'a [u8]
+    pub(super) fn offer<'a>(&self, seed: &[u8; 16], scratch: &'a mut [u8; MAX_FRAME]) -> &'a [u8]
         ensures offer { result.now ≡ S.scheme.offer_of (keyring_of (S.meaning self.now.suite)) seed.now }
         ensures short { length result.now ≤ 64 }
     {
@@ -24,7 +25,7 @@ impl<S: Suite> Entity<S> {
         &scratch[..n]
     }
 
-    pub(super) fn check_value<'a>(&self, role: Role, scratch: &'a mut [u8; 255]) -> &'a [u8]
+    pub(super) fn check_value<'a>(&self, role: Role, scratch: &'a mut [u8; MAX_FRAME]) -> &'a [u8]
         requires { has_secret self.now.state ≡ true }
         ensures value { result.now ≡ check_value S.scheme (view S.meaning self.now) role }
         ensures short { length result.now ≤ 32 }
@@ -33,12 +34,17 @@ impl<S: Suite> Entity<S> {
         &scratch[..n]
     }
 
-    pub(super) fn seal<'a>(&self, number: u32, plain: &[u8], scratch: &'a mut [u8; 255]) -> &'a [u8]
+    pub(super) fn seal<'a>(
+        &self,
+        number: u32,
+        plain: &[u8],
+        scratch: &'a mut [u8; MAX_FRAME],
+    ) -> &'a [u8]
         requires state { has_link self.now.state ≡ true }
-        requires data { length plain.now ≤ 200 }
-        requires number { number < 16777216 }
+        requires data { length plain.now ≤ MAX_DATA }
+        requires number { number ≤ MAX_NUMBER }
         ensures payload { result.now ≡ sealed_record S.scheme (view S.meaning self.now) number plain.now }
-        ensures short { length result.now ≤ 232 }
+        ensures short { length result.now ≤ MAX_DATA + 32 }
     {
         let n = self
             .suite
@@ -51,12 +57,12 @@ impl<S: Suite> Entity<S> {
     pub(super) fn open(
         &self,
         payload: &[u8],
-        scratch: &mut [u8; 255],
+        scratch: &mut [u8; MAX_FRAME],
     ) -> Result<(u8, u32, usize), SuiteFault>
         requires state { has_link self.now.state ≡ true }
-        requires payload { length payload.now ≤ 254 }
+        requires payload { length payload.now ≤ MAX_PAYLOAD }
         ensures record { record_result result scratch.new ≡ opened_record S.scheme (view S.meaning self.now) payload.now }
-        ensures fits { IfOk result (λ t. t.2 ≤ 255) }
+        ensures fits { IfOk result (λ t. t.2 ≤ MAX_FRAME) }
     {
         self.suite
             .open(self.link, payload, scratch)

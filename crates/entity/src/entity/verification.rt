@@ -8,6 +8,7 @@ ghost use Rattle.entity.specs.ResultViews.{serial_of_start, model_of_start};
 use super::Entity;
 use super::suite_calls::derive;
 use crate::bytes::put;
+use buffers::MAX_FRAME;
 use frame::{Body, Service};
 use protocol::{Confirmation, MachineFault, Outcome, State, SuiteFault, in_state};
 use suite::{Role, Suite};
@@ -18,7 +19,7 @@ impl<S: Suite> Entity<S> {
         requires { has_secret self.now.state ≡ true }
         ensures { result ≡ verification S.scheme (view S.meaning self.now) role payload.now }
     {
-        let mut scratch = [0; 255];
+        let mut scratch = [0; MAX_FRAME];
         if payload == self.check_value(role, &mut scratch) {
             Ok(())
         } else {
@@ -53,12 +54,12 @@ impl<S: Suite> Entity<S> {
         reply: &mut [u8],
     ) -> Result<Outcome, MachineFault>
         requires state { has_secret self.old.state ≡ true }
-        requires room { 255 ≤ length reply.old }
+        requires room { MAX_FRAME ≤ length reply.old }
         ensures { HasEffect (view S.meaning self.old) (on_vfy_req S.scheme (view S.meaning self.old) payload.now) (view S.meaning self.new) result reply.old reply.new }
     {
         let state = self.state;
         in_state(state, self.verify(Role::Sender, payload))?;
-        let mut scratch = [0; 255];
+        let mut scratch = [0; MAX_FRAME];
         let own = self.check_value(Role::Recipient, &mut scratch);
         let made = in_state(state, self.confirm())?;
         let length = put(self.service, Body::VfyRes(own), reply);

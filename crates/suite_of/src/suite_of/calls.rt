@@ -12,9 +12,10 @@ use super::SuiteOf;
 use crate::bytes::write;
 use crate::kind::Kind;
 use crate::payload::{read_payload, write_payload};
+use buffers::{MAX_FRAME, MAX_PAYLOAD};
 use key_store::KeyStore;
 use std::marker::PhantomData;
-use suite::{Denial, HasMeaning, KeyKind, KindNumbers, Role, Suite};
+use suite::{Denial, HasMeaning, KeyKind, KindNumbers, MAX_DATA, MAX_NUMBER, Role, Suite};
 
 impl<K: Kind> SuiteOf<K> {
     /// A suite with a root and no key.
@@ -78,7 +79,7 @@ impl<K: Kind> Suite for SuiteOf<K> {
     }
 
     fn offer(&self, seed: &[u8], out: &mut [u8]) -> Result<usize, Denial> {
-        if seed.len() != 16 || out.len() < 255 {
+        if seed.len() != 16 || out.len() < MAX_FRAME {
             return Err(Denial::Unfit);
         }
         Ok(write(seed, out))
@@ -99,7 +100,7 @@ impl<K: Kind> Suite for SuiteOf<K> {
 
     fn check(&self, key: u32, role: u8, out: &mut [u8]) -> Result<usize, Denial> {
         let role = Role::try_from(role)?;
-        if out.len() < 255 {
+        if out.len() < MAX_FRAME {
             return Err(Denial::Unfit);
         }
         let value = self.value(KeyKind::SharedSecret, key)?;
@@ -123,7 +124,7 @@ impl<K: Kind> Suite for SuiteOf<K> {
         out: &mut [u8],
     ) -> Result<usize, Denial> {
         let role = Role::try_from(role)?;
-        if plain.len() > 200 || number > 16_777_215 || out.len() < 255 {
+        if plain.len() > MAX_DATA || number > MAX_NUMBER || out.len() < MAX_FRAME {
             return Err(Denial::Unfit);
         }
         let value = self.value(KeyKind::LinkKey, key)?;
@@ -136,7 +137,7 @@ impl<K: Kind> Suite for SuiteOf<K> {
         payload: &[u8],
         out: &mut [u8],
     ) -> Result<Option<(u8, u32, usize)>, Denial> {
-        if payload.len() > 254 || out.len() < 255 {
+        if payload.len() > MAX_PAYLOAD || out.len() < MAX_FRAME {
             return Err(Denial::Unfit);
         }
         let value = self.value(KeyKind::LinkKey, key)?;

@@ -1,4 +1,4 @@
--- A frame that was read has at most 254 bytes after its SEP.
+-- A frame that was read has at most MAX_PAYLOAD bytes after its SEP.
 use Rattle.std.proofs.Common.{sym}
 use Rattle.frame.specs.Frames.{parts_of}
 use Rattle.frame.proofs.Trips.{read_short}
