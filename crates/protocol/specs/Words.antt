@@ -1,10 +1,12 @@
--- The words for states, confirmations, refusals and faults: one definition for each enum.
-use Rattle.std.specs.Prelude.{ℕ, List, codes}
+-- The words for states, confirmations, keys destroyed, refusals and faults: one definition for each type.
+use Rattle.std.specs.Prelude.{ℕ, List, ◌++◌, codes}
+use Rattle.std.specs.Fmt.{decimal}
 use Rattle.frame.specs.Words.{fault_words}
 use Rattle.protocol.specs.declared.states.State.{State}
 use Rattle.protocol.specs.declared.states.State.TheVariants as st
 use Rattle.protocol.specs.declared.outcomes.Confirmation.{Confirmation}
 use Rattle.protocol.specs.declared.outcomes.Confirmation.TheVariants as conf
+use Rattle.protocol.specs.declared.outcomes.Destroyed.{Destroyed}
 use Rattle.protocol.specs.declared.refusals.Refusal.{Refusal}
 use Rattle.protocol.specs.declared.refusals.Refusal.TheVariants as no
 use Rattle.protocol.specs.declared.faults.SuiteFault.{SuiteFault}
@@ -28,6 +30,10 @@ confirmation_words conf.DataAvailable = codes "Data Available"
 confirmation_words conf.Terminated = codes "Terminated"
 confirmation_words conf.Error = codes "Error"
 confirmation_words conf.Dropped = codes "dropped"
+
+-- the serials of the link key and of the shared secret, 0 for none
+abbrev pub destroyed_words : Destroyed → List ℕ
+destroyed_words keys = codes "destroyed " ++ decimal keys.link ++ codes " " ++ decimal keys.secret
 
 abbrev pub refusal_words : Refusal → List ℕ
 refusal_words no.ReplyBuffer = codes "the reply buffer has fewer than 255 bytes"

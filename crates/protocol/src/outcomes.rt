@@ -1,7 +1,7 @@
 ghost use Rattle.std.specs.Prelude.{◌≡◌, Some};
 ghost use Rattle.protocol.specs.Numbers.{confirmation_number};
 ghost use Rattle.protocol.specs.Outcomes.{no_keys, ongoing_outcome};
-ghost use Rattle.protocol.specs.Words.{confirmation_words};
+ghost use Rattle.protocol.specs.Words.{confirmation_words, destroyed_words};
 
 use super::faults::Fault;
 use std::fmt;
@@ -58,6 +58,15 @@ impl Destroyed {
         ensures { result ≡ no_keys }
     {
         Destroyed { link: 0, secret: 0 }
+    }
+}
+
+impl fmt::Display for Destroyed {
+    ghost output = { λ destroyed. Some (destroyed_words destroyed) };
+
+    fn fmt<W: fmt::Write>(&self, f: &mut fmt::Formatter<W>) -> fmt::Result {
+        let Destroyed { link, secret } = self;
+        write!(f, "destroyed {link} {secret}")
     }
 }
 
