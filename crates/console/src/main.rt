@@ -1,7 +1,6 @@
 // Two peers by hand: reads a script of calls from standard input, and prints one line for each. The script is described in docs/CONSOLE.md.
 #![tactic(auto)]
 
-mod answer;
 mod call;
 mod peer;
 mod printer;

@@ -1,7 +1,6 @@
 // A peer with its entity. Each call of it prints a line.
 ghost use Rattle.std.specs.Prelude.{◌≤◌, length, IfOk};
 
-use super::answer::Gone;
 use super::call::{Action, Request};
 use super::printer::Printer;
 use super::stack::Stack;
@@ -83,7 +82,7 @@ impl<'a, S: Stack> Peer<'a, S> {
             (_, None) => printer.says(action, &"no entity"),
             (Action::Away, place) => {
                 let destroyed = place.take().map_or(Destroyed::nothing(), put_away);
-                printer.says(action, &Gone(destroyed))
+                printer.says(action, &destroyed)
             }
             (Action::Request(request, size), Some(entity)) => {
                 let mut buffer = vec![in printer.rt.alloc(); 0; *size]?;

@@ -1,6 +1,6 @@
 // Prints the lines of a peer.
-use super::answer::Answer;
 use super::call::{Action, Name};
+use answer_text::{Answer, Plain, bytes_text};
 use entity::Entity;
 use protocol::{Outcome, Refusal};
 use std::{fmt, io};
@@ -30,17 +30,13 @@ impl<'a> Printer<'a> {
         answer: Result<Outcome, Refusal>,
         bytes: &[u8],
     ) -> io::Result<()> {
-        let alloc = self.rt.alloc();
-        let wrote = match bytes {
-            [] => String::from_str(alloc, "-")?,
-            _ => hex_text::encode(alloc, bytes)?,
-        };
-        let answer = Answer {
+        let wrote = bytes_text(self.rt.alloc(), bytes)?;
+        let text = Plain(Answer {
             answer,
             wrote: &wrote,
             state: entity.state(),
             number: entity.number(),
-        };
-        self.says(action, &answer)
+        });
+        self.says(action, &text)
     }
 }

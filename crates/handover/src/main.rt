@@ -15,7 +15,6 @@ use day::{EVENING, MORNING, Record};
 use entity::Entity;
 use keyed_suite::KeyedSuite;
 use link::{activate, hand_over, terminate};
-use protocol::Destroyed;
 use station::Station;
 use std::io;
 use stopped::Stopped;
@@ -65,9 +64,9 @@ fn run<S: Suite, T: Suite>(
 }
 
 fn end(rt: &HostRuntime, name: &str, entity: Entity<KeyedSuite>) -> io::Result<()> {
-    let (suite, Destroyed { link, secret }) = entity.put_away();
+    let (suite, destroyed) = entity.put_away();
     let _root = suite.close();
-    println!(rt; "  {name} away: destroyed {link} {secret}")
+    println!(rt; "  {name} away: {destroyed}")
 }
 
 // The day: what is handed over, and the logs of it.

@@ -3,9 +3,10 @@
 use super::log::{Frame, Made, OWN_SEED};
 use super::stopped::Stopped;
 use activation::Agreed;
+use answer_text::{Answer, Worded, bytes_text};
 use entity::{Call, Entity, Slip};
 use frame::{MAX_FRAME, Service};
-use protocol::{Destroyed, Fault, Outcome, Refusal};
+use protocol::{Outcome, Refusal};
 use std::alloc::AllocError;
 use suite::Suite;
 
@@ -52,58 +53,21 @@ impl<'a, S: Suite> Station<'a, S> {
         (entity, log)
     }
 
-    fn fault_text(&self, fault: Option<Fault>) -> Result<String, AllocError> {
-        let alloc = self.rt.alloc();
-        match fault {
-            None => String::from_str(alloc, "none"),
-            Some(fault) => {
-                let code = fault.code();
-                let state = fault.machine.state.mark();
-                format!(in alloc;
-                    "{code} place {} state {state} message {}",
-                    code.place, fault.message
-                )
-            }
-        }
-    }
-
-    fn outcome_text(&self, outcome: Outcome, wrote: &[u8]) -> Result<String, AllocError> {
-        let alloc = self.rt.alloc();
-        let bytes = match wrote {
-            [] => String::from_str(alloc, "-")?,
-            _ => hex_text::encode(alloc, wrote)?,
-        };
-        let fault = self.fault_text(outcome.fault)?;
-        let Outcome {
-            confirmation,
-            length: _,
-            made,
-            destroyed: Destroyed { link, secret },
-            fault: _,
-        } = outcome;
-        let number = confirmation.number();
-        format!(in alloc;
-            "confirmation {number} {confirmation}, wrote {bytes}, made {made}, destroyed {link} {secret}, fault {fault}"
-        )
-    }
-
     fn says(
         &self,
         call: &str,
         answer: Result<Outcome, Refusal>,
-        wrote: &[u8],
+        bytes: &[u8],
     ) -> Result<(), Stopped> {
         let name = self.name;
-        let state = self.entity.state();
-        let number = self.entity.number();
-        let text = match answer {
-            Ok(outcome) => self.outcome_text(outcome, wrote)?,
-            Err(refusal) => {
-                let number = refusal.number();
-                format!(in self.rt.alloc(); "refused {number}, {refusal}")?
-            }
-        };
-        Ok(println!(self.rt; "  {name} {call}: {text}; {state}, number {number}")?)
+        let wrote = bytes_text(self.rt.alloc(), bytes)?;
+        let text = Worded(Answer {
+            answer,
+            wrote: &wrote,
+            state: self.entity.state(),
+            number: self.entity.number(),
+        });
+        Ok(println!(self.rt; "  {name} {call}: {text}")?)
     }
 
     // Notes a call, makes it and prints it.
