@@ -5,6 +5,7 @@ use Rattle.activation.specs.declared.states.Refusal.{Refusal}
 use Rattle.activation.specs.declared.states.Refusal.TheVariants.{NotSupported}
 use Rattle.activation.specs.declared.states.Refused.{Refused}
 
+-- the number of the refusal of an activation
 abbrev pub refusal_number : Refusal → ℕ
 refusal_number NotSupported = 11
 
@@ -17,6 +18,7 @@ pub data Answer : Type 0 where
   agreed : (own peer : ℕ) → Answer
   refused : (number own : ℕ) → Answer
 
+-- the exchange of one's own byte and the peer's: agreed where both support NFC-SEC, else refused with number 11
 abbrev pub exchange_answer : ℕ → ℕ → Answer
 exchange_answer own peer = cond (sec_bit own && sec_bit peer) (agreed own peer) (refused 11 own)
 

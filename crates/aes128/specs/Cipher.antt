@@ -25,9 +25,11 @@ mix_column a b c d =
     ∷ bit_xor (bit_xor (bit_xor (mul a 3) b) c) (mul d 2)
     ∷ []
 
+-- MixColumns of the column that begins at the place k
 abbrev pub mix_at : List ℕ → ℕ → List ℕ
 mix_at s k = mix_column (slice_index s k) (slice_index s (k + 1)) (slice_index s (k + 2)) (slice_index s (k + 3))
 
+-- MixColumns (5.1.3), all four columns
 unfoldable pub mix_columns : List ℕ → List ℕ
 mix_columns s = mix_at s 0 ++ (mix_at s 4 ++ (mix_at s 8 ++ mix_at s 12))
 
@@ -61,6 +63,7 @@ key_words key zero =
     map (λ c. word_of (slice_index key (4 * c)) (slice_index key (4 * c + 1)) (slice_index key (4 * c + 2)) (slice_index key (4 * c + 3))) (range_with_len 0 4)
 key_words key (suc n) = key_words key n ++ (next_word (n + 4) (key_words key n) ∷ [])
 
+-- the 44 words of the expanded key
 unfoldable pub schedule : List ℕ → List ℕ
 schedule key = key_words key 40
 
@@ -69,9 +72,11 @@ abbrev pub rounds : List ℕ → ℕ → List ℕ → List ℕ
 rounds ws zero s = s
 rounds ws (suc n) s = add_round_key ws (suc n) (mix_columns (shift_rows (sub_bytes (rounds ws n s))))
 
+-- Cipher (5.1) under a key schedule: ten rounds, the last without MixColumns
 unfoldable pub cipher_with : List ℕ → List ℕ → List ℕ
 cipher_with ws input = add_round_key ws 10 (shift_rows (sub_bytes (rounds ws 9 (add_round_key ws 0 input))))
 
+-- Cipher (5.1) under a key of sixteen bytes
 abbrev pub cipher : List ℕ → List ℕ → List ℕ
 cipher key input = cipher_with (schedule key) input
 

@@ -10,6 +10,7 @@ abbrev pub mul_low : ℕ → ℕ → ℕ → ℕ
 mul_low zero a b = 0
 mul_low (suc n) a b = bit_xor (cond (b % 2 == 1) a 0) (mul_low n (xtime a) (b / 2))
 
+-- the product of two bytes in the field (4.2)
 unfoldable pub mul : ℕ → ℕ → ℕ
 mul a b = mul_low 8 a b
 
@@ -22,6 +23,7 @@ power_low (suc k) n a = mul (cond (n % 2 == 1) a 1) (power_low k (n / 2) (mul a 
 unfoldable pub inverse : ℕ → ℕ
 inverse a = power_low 8 254 a
 
+-- the inverse of a byte times the byte is 1
 abbrev pub InverseStands : Type 0
 InverseStands = (a : ℕ) → 0 < a → a < 256 → mul a (inverse a) ≡ 1
 
@@ -29,9 +31,11 @@ InverseStands = (a : ℕ) → 0 < a → a < 256 → mul a (inverse a) ≡ 1
 abbrev pub bit : ℕ → ℕ → ℕ
 bit b i = (b / 2 ^ (i % 8)) % 2
 
+-- the bit i of the affine map (5.1.1, equation 5.1)
 abbrev pub affine_bit : ℕ → ℕ → ℕ
 affine_bit b i = (bit b i + bit b (i + 4) + bit b (i + 5) + bit b (i + 6) + bit b (i + 7) + bit 0x63 i) % 2
 
+-- the low n bits of the affine map
 abbrev pub affine_low : ℕ → ℕ → ℕ
 affine_low zero b = 0
 affine_low (suc n) b = affine_low n b + affine_bit b n * 2 ^ n

@@ -5,9 +5,11 @@ use Rattle.std.specs.Prelude.{ℕ, ◌+◌, ◌-◌, ◌*◌, ◌/◌, ◌%◌, 
 abbrev pub byte_of : ℕ → ℕ → ℕ
 byte_of w i = (w / 2 ^ (24 - 8 * i)) % 256
 
+-- the four bytes of a word
 abbrev pub word_bytes : ℕ → List ℕ
 word_bytes w = byte_of w 0 ∷ byte_of w 1 ∷ byte_of w 2 ∷ byte_of w 3 ∷ []
 
+-- the word of four bytes
 abbrev pub word_of : ℕ → ℕ → ℕ → ℕ → ℕ
 word_of a b c d = a * 2 ^ 24 + b * 2 ^ 16 + c * 2 ^ 8 + d
 

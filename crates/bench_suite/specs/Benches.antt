@@ -13,6 +13,7 @@ xor_lists (x ∷ xs) (y ∷ ys) = bit_xor x y ∷ xor_lists xs ys
 abbrev pub link_key : List ℕ → List ℕ
 link_key secret = map (λ x. bit_xor x 0x5A) secret
 
+-- the sum of bytes modulo 256
 abbrev pub sum_byte : List ℕ → ℕ
 sum_byte xs = sum xs % 256
 
@@ -30,5 +31,6 @@ bench_functions = record {
   field_of = λ link body. sum_byte body ∷ [];
 }
 
+-- the bench suite as a scheme
 abbrev pub bench_scheme : Scheme
 bench_scheme = scheme_of bench_functions

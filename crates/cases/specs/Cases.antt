@@ -30,6 +30,7 @@ abbrev pub fault_parts : Option Fault → Option (FaultCode × ℕ × ℕ)
 fault_parts None = None
 fault_parts (Some f) = Some (cause_code f.machine.cause, state_mark f.machine.state, f.message)
 
+-- the fault that an answer tells, by its numbers
 abbrev pub fault : Result Outcome Refusal → Option (FaultCode × ℕ × ℕ)
 fault (Ok o) = fault_parts o.fault
 fault (Err r) = None
@@ -41,9 +42,11 @@ destroyed (Err r) = no_keys
 
 -- The two peers' seeds.
 
+-- the Sender's seed, and so its offer
 abbrev pub ones : List ℕ
 ones = replicate 16 1
 
+-- the Recipient's
 abbrev pub twos : List ℕ
 twos = replicate 16 2
 
@@ -51,9 +54,11 @@ twos = replicate 16 2
 abbrev pub entity : ℕ → Model
 entity last = new_model (record { root = replicate 16 0; last = last; newest = 0; live = [] })
 
+-- a new entity over a suite that makes as many keys as there are serials
 abbrev pub new : Model
 new = entity 4294967295
 
+-- one call
 abbrev pub call : Model → Call → CallEffect
 call m c = call_effect bench_scheme m c
 
@@ -67,38 +72,49 @@ after_frame m bytes = call m (frame bytes (beside no_seed) MAX_FRAME)
 
 -- An activation for SCH, call by call: the Sender's and the Recipient's.
 
+-- the Sender invokes
 abbrev pub act_req : CallEffect
 act_req = call new (invoke Sch 0xF0 ones MAX_FRAME)
 
+-- the Recipient receives ACT_REQ
 abbrev pub act_res : CallEffect
 act_res = call new (frame act_req.reply (beside twos) MAX_FRAME)
 
+-- the Sender receives ACT_RES
 abbrev pub vfy_req : CallEffect
 vfy_req = after_frame act_req.model act_res.reply
 
+-- the Recipient receives VFY_REQ
 abbrev pub vfy_res : CallEffect
 vfy_res = after_frame act_res.model vfy_req.reply
 
+-- the Sender receives VFY_RES
 abbrev pub sender_confirmed : CallEffect
 sender_confirmed = after_frame vfy_req.model vfy_res.reply
 
 -- Records: the Sender's first, the same frame before and after its data are retrieved, and the Recipient's answer.
 
+-- the Sender sends 41 42
 abbrev pub sent : CallEffect
 sent = call sender_confirmed.model (send (0x41 ∷ 0x42 ∷ []) MAX_FRAME)
 
+-- the Recipient receives the record
 abbrev pub received : CallEffect
 received = after_frame vfy_res.model sent.reply
 
+-- it receives the same frame again, before it retrieves the data
 abbrev pub repeated : CallEffect
 repeated = after_frame received.model sent.reply
 
+-- it retrieves the data
 abbrev pub retrieved : CallEffect
 retrieved = call received.model (retrieve_data MAX_FRAME)
 
+-- it receives the same frame again, after that
 abbrev pub dropped : CallEffect
 dropped = after_frame retrieved.model sent.reply
 
+-- it sends 43
 abbrev pub answered : CallEffect
 answered = call dropped.model (send (0x43 ∷ []) MAX_FRAME)
 
@@ -108,12 +124,15 @@ sent_at number = call (record sender_confirmed.model { number = number }) (send 
 
 -- A Recipient whose suite makes one key, and so no link key.
 
+-- it receives ACT_REQ
 abbrev pub recipient_of_one_key : CallEffect
 recipient_of_one_key = call (entity 1) (frame act_req.reply (beside twos) MAX_FRAME)
 
+-- it receives VFY_REQ
 abbrev pub keyless : CallEffect
 keyless = after_frame recipient_of_one_key.model vfy_req.reply
 
+-- what these calls answer and write
 pub record Cases : Type 0 where
   -- the activation: what is written, and that both confirm it
   pub act_req_bytes : act_req.reply ≡ 0x10 ∷ 0xF0 ∷ ones

@@ -11,6 +11,7 @@ use Rattle.entity.specs.declared.call.Call.TheVariants.{Invoke, Send, RetrieveDa
 abbrev pub ancillary_of : Ancillary → m.Ancillary
 ancillary_of beside = record { seed = beside.seed.now }
 
+-- the same, of what is known to fit
 abbrev pub fitted_ancillary : Fitted → m.Ancillary
 fitted_ancillary beside = record { seed = beside.seed.now }
 

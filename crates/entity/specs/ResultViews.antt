@@ -22,6 +22,7 @@ abbrev pub model_of_start : Model → Result (Model × ℕ) SuiteFault → Model
 model_of_start m (Ok c) = c.0
 model_of_start m (Err e) = m
 
+-- the serial of the key made for it, or why there is none
 abbrev pub serial_of_start : Result (Model × ℕ) SuiteFault → Result ℕ SuiteFault
 serial_of_start (Ok c) = Ok c.1
 serial_of_start (Err e) = Err e

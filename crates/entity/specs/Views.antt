@@ -3,6 +3,7 @@ use Rattle.suite.specs.Meanings.{Meaning}
 use Rattle.protocol.specs.Models.{Model}
 use Rattle.entity.specs.declared.entity.Entity.{Entity}
 
+-- the entity's fields, and what its suite means
 abbrev pub view : {S : Type 0} {b : _} → (S → Meaning) → Entity S b → Model
 view meaning e = record {
   means = meaning e.suite;

@@ -77,21 +77,27 @@ pub record SetUp : Type 0 where
 
 -- The five calls of an activation: ACT_REQ is written, ACT_RES, VFY_REQ, VFY_RES, and nothing more.
 
+-- the one invokes: ACT_REQ is sent
 abbrev pub act_req_sent : Scheme → Service → SetUp → Peer
 act_req_sent s service x = let new = new_peer x.mine x.my_supply in after_call s new (invoke service s.pid x.seed (next_room new))
 
+-- the other receives it: ACT_RES is sent
 abbrev pub act_res_sent : Scheme → Service → SetUp → Peer
 act_res_sent s service x = after_frame s (new_peer x.theirs x.their_supply) (act_req_sent s service x)
 
+-- the one receives that: VFY_REQ is sent
 abbrev pub vfy_req_sent : Scheme → Service → SetUp → Peer
 vfy_req_sent s service x = after_frame s (act_req_sent s service x) (act_res_sent s service x)
 
+-- the other receives that: VFY_RES is sent
 abbrev pub vfy_res_sent : Scheme → Service → SetUp → Peer
 vfy_res_sent s service x = after_frame s (act_res_sent s service x) (vfy_req_sent s service x)
 
+-- the one receives that, and sends nothing
 abbrev pub vfy_res_received : Scheme → Service → SetUp → Peer
 vfy_res_received s service x = after_frame s (vfy_req_sent s service x) (vfy_res_sent s service x)
 
+-- the two after these five calls
 abbrev pub activated_peers : Scheme → Service → SetUp → Peers
 activated_peers s service x = record { one = vfy_res_received s service x; other = vfy_res_sent s service x }
 

@@ -3,9 +3,11 @@ use Rattle.std.specs.Prelude.{◌≡◌, ℕ, Bool, cond, not, ◌⊎◌, List, 
 use Rattle.std.specs.List.{prefix_len, AllByRecursion}
 use Rattle.frame.specs.Frames.{Contents, act_req, act_res, vfy_req, vfy_res, enc, tmn, error}
 
+-- whether a byte is not 00
 abbrev pub is_not_zero : ℕ → Bool
 is_not_zero b = not (b == 0)
 
+-- the place of the first 00, or the length where there is none
 abbrev pub zero_place : List ℕ → ℕ
 zero_place p = prefix_len is_not_zero p
 
@@ -13,6 +15,7 @@ zero_place p = prefix_len is_not_zero p
 abbrev pub part_before_zero : List ℕ → List ℕ
 part_before_zero p = cond (nat_lt (zero_place p) (length p)) (take (zero_place p) p) []
 
+-- the detail of a message: of an ERROR the part of its payload before the first 00, of any other nothing
 abbrev pub detail : Contents → List ℕ
 detail (act_req pid p) = []
 detail (act_res p) = []
@@ -22,6 +25,7 @@ detail (enc p) = []
 detail (tmn p) = []
 detail (error p) = part_before_zero p
 
+-- no byte is 00
 abbrev pub HasNoZero : List ℕ → Type 0
 HasNoZero p = AllByRecursion (λ b. b ≢ 0) p
 

@@ -18,10 +18,12 @@ pub data Contents : Type 0 where
   tmn : (payload : List ℕ) → Contents
   error : (payload : List ℕ) → Contents
 
+-- the parts of a frame
 pub record FrameParts : Type 0 where
   pub service : Service
   pub contents : Contents
 
+-- the kind of message, which MSG names
 abbrev pub kind_of : Contents → MessageKind
 kind_of (act_req pid p) = msg.ActReq
 kind_of (act_res p) = msg.ActRes
@@ -31,6 +33,7 @@ kind_of (enc p) = msg.Enc
 kind_of (tmn p) = msg.Tmn
 kind_of (error p) = msg.Error
 
+-- the payload, without the PID
 abbrev pub payload_of : Contents → List ℕ
 payload_of (act_req pid p) = p
 payload_of (act_res p) = p
@@ -54,6 +57,7 @@ bytes_after_sep (error p) = p
 abbrev pub sep : Service → MessageKind → ℕ
 sep s k = service_code s * 16 + message_code k
 
+-- the frame's bytes: SEP, then the rest
 abbrev pub wire_bytes : FrameParts → List ℕ
 wire_bytes x = sep x.service (kind_of x.contents) ∷ bytes_after_sep x.contents
 
@@ -67,5 +71,6 @@ contents_of (body.Enc p) = enc p.now
 contents_of (body.Tmn p) = tmn p.now
 contents_of (body.Error p) = error p.now
 
+-- the parts of the code's message
 abbrev pub parts_of : Message → FrameParts
 parts_of m = record { service = m.service; contents = contents_of m.body }

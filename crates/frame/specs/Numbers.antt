@@ -25,6 +25,7 @@ message_code msg.Enc = 0b0100
 message_code msg.Tmn = 0b0110
 message_code msg.Error = 0b1111
 
+-- 1 for a buffer below 255 bytes, 3 for a frame that is none
 abbrev pub refusal_number : Refusal → ℕ
 refusal_number ReplyBuffer = 1
 refusal_number FrameLength = 3
@@ -33,6 +34,7 @@ refusal_number FrameLength = 3
 abbrev pub codec_code : ℕ → ℕ → FaultCode
 codec_code n place = record { letter = 0x43; digit = 0x30 + n; place = place }
 
+-- C1 to C4; the first three are of SEP, the fourth of the byte after it
 abbrev pub fault_code : CodecFault → FaultCode
 fault_code RfuBit = codec_code 1 0
 fault_code NoService = codec_code 2 0

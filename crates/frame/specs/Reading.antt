@@ -18,12 +18,15 @@ use Rattle.frame.specs.Frames.{Contents, act_req, act_res, vfy_req, vfy_res, enc
 
 -- The bits of SEP.
 
+-- bits 8 and 7
 abbrev pub rfu_bits : ℕ → ℕ
 rfu_bits b = b / 64
 
+-- bits 6 and 5
 abbrev pub svc_bits : ℕ → ℕ
 svc_bits b = (b / 16) % 4
 
+-- bits 4 to 1
 abbrev pub msg_bits : ℕ → ℕ
 msg_bits b = b % 16
 
@@ -32,15 +35,19 @@ abbrev pub find_code : {A : Type 0} → (A → ℕ) → List A → ℕ → Optio
 find_code code [] n = None
 find_code code (a ∷ as') n = cond (n == code a) (Some a) (find_code code as' n)
 
+-- the services
 abbrev pub all_services : List Service
 all_services = Sse ∷ Sch ∷ []
 
+-- the kinds of message
 abbrev pub all_kinds : List MessageKind
 all_kinds = msg.ActReq ∷ msg.ActRes ∷ msg.VfyReq ∷ msg.VfyRes ∷ msg.Enc ∷ msg.Tmn ∷ msg.Error ∷ []
 
+-- the service of an SVC code
 abbrev pub service_with : ℕ → Option Service
 service_with n = find_code service_code all_services n
 
+-- the kind of message of a MSG code
 abbrev pub kind_with : ℕ → Option MessageKind
 kind_with n = find_code message_code all_kinds n
 
@@ -48,6 +55,7 @@ kind_with n = find_code message_code all_kinds n
 abbrev pub service_result : ℕ → Result Service CodecFault
 service_result n = ok_or (service_with n) NoService
 
+-- C3 where it is the code of no message
 abbrev pub kind_result : ℕ → Result MessageKind CodecFault
 kind_result n = ok_or (kind_with n) NoMessage
 
@@ -57,6 +65,7 @@ service_and_kind None k = Err (codec_code 2 0)
 service_and_kind (Some s) None = Err (codec_code 3 0)
 service_and_kind (Some s) (Some k) = Ok (s, k)
 
+-- service and kind that SEP names, or the fault
 abbrev pub sep_reading : ℕ → Result (Service × MessageKind) FaultCode
 sep_reading b = cond (not (rfu_bits b == 0)) (Err (codec_code 1 0)) (service_and_kind (service_with (svc_bits b)) (kind_with (msg_bits b)))
 
@@ -78,10 +87,12 @@ pub data Reading : Type 0 where
   refused : (number : ℕ) → Reading
   fault : FaultCode → Reading
 
+-- the reading once the service is known
 abbrev pub reading_of_contents : Service → Result Contents FaultCode → Reading
 reading_of_contents s (Ok x) = message (record { service = s; contents = x })
 reading_of_contents s (Err f) = fault f
 
+-- the reading once SEP is read
 abbrev pub reading_of_sep : Result (Service × MessageKind) FaultCode → List ℕ → Reading
 reading_of_sep (Ok (s, k)) rest = reading_of_contents s (contents_reading k rest)
 reading_of_sep (Err f) rest = fault f
@@ -93,14 +104,17 @@ reading (b ∷ rest) = cond (nat_lt MAX_FRAME (length (b ∷ rest))) (refused 3)
 
 -- The code's answers by their numbers.
 
+-- an answer with the fault by its code
 abbrev pub coded_result : {A : Type 0} → Result A CodecFault → Result A FaultCode
 coded_result (Ok x) = Ok x
 coded_result (Err f) = Err (fault_code f)
 
+-- the code's body, or the fault by its code
 abbrev pub contents_result : Result Body CodecFault → Result Contents FaultCode
 contents_result (Ok b) = Ok (contents_of b)
 contents_result (Err f) = Err (fault_code f)
 
+-- the code's reading
 abbrev pub reading_answered : Result Message ReadError → Reading
 reading_answered (Ok m) = message (parts_of m)
 reading_answered (Err (Refused r)) = refused (refusal_number r)

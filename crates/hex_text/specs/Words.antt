@@ -7,6 +7,7 @@ use Rattle.hex_text.specs.declared.HexError.TheVariants.{NotHex, NoMemory}
 abbrev pub column : ℕ → ℕ
 column place = min (place + 1) (2 ^ 64 - 1)
 
+-- what is printed of an error
 abbrev pub error_words : HexError → List ℕ
 error_words (NotHex place) = codes "not hexadecimal: no byte of two digits at column " ++ decimal (column place)
 error_words NoMemory = codes "too long for the memory"

@@ -28,13 +28,16 @@ pub record Entry : Type 0 where
 abbrev pub History : Type 0
 History = List Entry
 
+-- the entity after these calls
 abbrev pub entity_after : Scheme → Model → List Call → Model
 entity_after s m [] = m
 entity_after s m (c ∷ before) = (call_effect s (entity_after s m before) c).model
 
+-- the entry of a call, by what the call does
 abbrev pub entry_of : Call → CallEffect → Entry
 entry_of c t = record { call = c; answer = t.answer; written = t.reply }
 
+-- the history of these calls on this entity
 abbrev pub history : Scheme → Model → List Call → History
 history s m [] = []
 history s m (c ∷ before) = entry_of c (call_effect s (entity_after s m before) c) ∷ history s m before
@@ -45,22 +48,27 @@ history s m (c ∷ before) = entry_of c (call_effect s (entity_after s m before)
 abbrev pub serial_list : ℕ → List ℕ
 serial_list n = cond (n == 0) [] (n ∷ [])
 
+-- the serial that an answer reports made
 abbrev pub serials_made_in : Result Outcome Refusal → List ℕ
 serials_made_in (Err r) = []
 serials_made_in (Ok o) = serial_list o.made
 
+-- the serials that it reports destroyed, the link key's first
 abbrev pub serials_destroyed_in : Result Outcome Refusal → List ℕ
 serials_destroyed_in (Err r) = []
 serials_destroyed_in (Ok o) = serial_list o.destroyed.link ++ serial_list o.destroyed.secret
 
+-- all serials reported made
 abbrev pub serials_made : History → List ℕ
 serials_made [] = []
 serials_made (e ∷ h) = serials_made h ++ serials_made_in e.answer
 
+-- all serials reported destroyed
 abbrev pub serials_destroyed : History → List ℕ
 serials_destroyed [] = []
 serials_destroyed (e ∷ h) = serials_destroyed h ++ serials_destroyed_in e.answer
 
+-- whether a number stands in a list
 abbrev pub is_member : ℕ → List ℕ → Bool
 is_member n [] = false
 is_member n (x ∷ xs) = n == x || is_member n xs
@@ -77,6 +85,7 @@ IsDistinct (x ∷ xs) = (is_member x xs ≡ false) × IsDistinct xs
 
 -- Link sessions.
 
+-- whether a call is answered with that confirmation
 abbrev pub has_confirmation : ℕ → Result Outcome Refusal → Bool
 has_confirmation n (Err r) = false
 has_confirmation n (Ok o) = confirmation_number o.confirmation == n
@@ -97,6 +106,7 @@ SomeRuns h = (n : ℕ) × ((since : History) × Runs n h since)
 
 -- Records, the oldest first.
 
+-- the data that a send is given
 abbrev pub data_given : Call → List (List ℕ)
 data_given (invoke service pid seed room) = []
 data_given (send plain room) = plain ∷ []
@@ -106,6 +116,7 @@ data_given (terminate room) = []
 data_given (frame bytes beside room) = []
 data_given release = []
 
+-- the bytes that a frame call is given
 abbrev pub frame_given : Call → List (List ℕ)
 frame_given (invoke service pid seed room) = []
 frame_given (send plain room) = []
@@ -123,14 +134,17 @@ data_sent_in e = cond (has_confirmation 2 e.answer) (data_given e.call) []
 abbrev pub frames_received_in : Entry → List (List ℕ)
 frames_received_in e = cond (has_confirmation 3 e.answer) (frame_given e.call) []
 
+-- the data of all records sent
 abbrev pub data_sent : History → List (List ℕ)
 data_sent [] = []
 data_sent (e ∷ h) = data_sent h ++ data_sent_in e
 
+-- the frames of all records received
 abbrev pub frames_received : History → List (List ℕ)
 frames_received [] = []
 frames_received (e ∷ h) = frames_received h ++ frames_received_in e
 
+-- whether a call is not refused
 abbrev pub is_answered : Result Outcome Refusal → Bool
 is_answered (Err r) = false
 is_answered (Ok o) = true
@@ -145,6 +159,7 @@ is_retrieved_by a (terminate room) = false
 is_retrieved_by a (frame bytes beside room) = false
 is_retrieved_by a release = false
 
+-- whether an entry is of such a call
 abbrev pub is_retrieval : Entry → Bool
 is_retrieval e = is_retrieved_by e.answer e.call
 

@@ -33,6 +33,7 @@ pub record SessionRecord : Type 0 where
   pub direction : Direction
   pub plain : List ℕ
 
+-- the record of an entry, in that session: none or one
 abbrev pub records_in : ℕ → Entry → List SessionRecord
 records_in session e =
     map (λ plain. record { session = session; direction = was_sent; plain = plain }) (data_sent_in e)

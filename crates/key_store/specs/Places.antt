@@ -4,6 +4,7 @@ use Rattle.suite.specs.Meanings.{Key, is_live}
 use Rattle.key_store.specs.declared.place.Label.{Label}
 use Rattle.key_store.specs.declared.place.Place.{Place}
 
+-- the key of a label and a value; none without a label
 abbrev pub labelled_key : Option Label → List ℕ → List Key
 labelled_key None value = []
 labelled_key (Some l) value = record { serial = l.serial; kind = l.kind; value = value } ∷ []

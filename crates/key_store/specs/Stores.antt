@@ -8,6 +8,7 @@ use Rattle.suite.specs.Meanings.{Key, Meaning}
 use Rattle.key_store.specs.declared.store.KeyStore.{KeyStore}
 use Rattle.key_store.specs.Places.{key_in}
 
+-- the last serial of both suites, 2^32 - 1
 abbrev pub last_serial : ℕ
 last_serial = 4294967295
 
@@ -29,12 +30,15 @@ is_store_spent s = is_spent (meaning_of_store [] s)
 
 -- What put answers and leaves: the newest serial and the live keys.
 
+-- the serial of the key put, or no further key
 abbrev pub put_result : KeyStore → Result ℕ Denial
 put_result s = cond (is_store_spent s) (Err Spent) (Ok (newest_of s + 1))
 
+-- the newest serial after
 abbrev pub put_newest : KeyStore → ℕ
 put_newest s = cond (is_store_spent s) (newest_of s) (newest_of s + 1)
 
+-- the live keys after
 abbrev pub put_keys : KeyStore → KeyKind → List ℕ → List Key
 put_keys s kind value = cond (is_store_spent s) (keys_of s) (keys_of s ++ (record { serial = newest_of s + 1; kind = kind; value = value } ∷ []))
 

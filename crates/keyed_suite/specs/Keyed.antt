@@ -12,9 +12,11 @@ use Rattle.suite_of.specs.Kinds.{KindFunctions}
 abbrev pub secret_of : List ℕ → ℕ → List ℕ → List ℕ → List ℕ
 secret_of root role own other = cmac root (cond (role == role_byte Sender) (own ++ other) (other ++ own))
 
+-- the key of the records' tags
 abbrev pub tag_key : List ℕ → List ℕ
 tag_key link = cmac link (replicate 16 4)
 
+-- the key of the records' keystream
 abbrev pub stream_key : List ℕ → List ℕ
 stream_key link = cmac link (replicate 16 5)
 
@@ -26,6 +28,7 @@ counter_block role n j = role ∷ (four_bytes n ++ (replicate 7 0 ++ four_bytes 
 abbrev pub keystream_byte : List ℕ → ℕ → ℕ → ℕ → ℕ
 keystream_byte ws role n i = slice_index (cipher_with ws (counter_block role n (i / 16))) (i % 16)
 
+-- PID F1, and what the suite computes
 abbrev pub keyed_functions : KindFunctions
 keyed_functions = record {
   pid = 0xF1;

@@ -37,9 +37,11 @@ pub data Call : Type 0 where
 abbrev pub CallEffect : Type 0
 CallEffect = Effect Refusal
 
+-- a refused call: the entity stays as it is, and nothing is written
 abbrev pub refusal_effect : Model → Refusal → CallEffect
 refusal_effect m refusal = record { model = m; answer = Err refusal; reply = [] }
 
+-- a call that goes on, and makes no key
 abbrev pub keyless_effect : Model → Confirmation → List ℕ → CallEffect
 keyless_effect m confirmation reply = ongoing_effect m confirmation 0 reply
 
@@ -49,9 +51,11 @@ ended m confirmation reply f = idle_effect m confirmation reply f
 
 -- Requests. Refusals are tried in the order in which they stand.
 
+-- whether the entity is in that state
 abbrev pub is_in_state : Model → State → Bool
 is_in_state m state = state_mark m.state == state_mark state
 
+-- Service Invocation (annex A.2): the seed is kept, and ACT_REQ is written
 abbrev pub invoke_effect : Scheme → Model → Service → ℕ → List ℕ → ℕ → CallEffect
 invoke_effect s m service pid seed room =
     cond (is_short_buffer room) (refusal_effect m no.ReplyBuffer)
@@ -70,6 +74,7 @@ send_effect s m plain room =
     (cond (nat_le s.final m.number) (refusal_effect m no.NumberSpent)
     (keyless_effect (record m { number = m.number + 1 }) conf.DataSent (frame_bytes Sch (enc (sealed_record s m (m.number + 1) plain)))))))
 
+-- Retrieve Data (annex A.2): the data held, whose place is empty after
 abbrev pub data_effect : Model → ℕ → CallEffect
 data_effect m room =
     cond (not (is_in_state m st.ConfirmedSch)) (refusal_effect m no.WrongState)
@@ -77,18 +82,21 @@ data_effect m room =
     (cond (nat_lt room (length m.held)) (refusal_effect m no.SmallBuffer)
     (keyless_effect (record m { held = [] }) conf.Nothing m.held)))
 
+-- Retrieve Secret (annex A.2): the sixteen bytes of the shared secret
 abbrev pub secret_effect : Model → ℕ → CallEffect
 secret_effect m room =
     cond (not (is_in_state m st.ConfirmedSse)) (refusal_effect m no.WrongState)
     (cond (nat_lt room 16) (refusal_effect m no.SmallBuffer)
     (keyless_effect m conf.Nothing (secret_value m)))
 
+-- Terminate (annex A.2, clause 9.4): TMN is written
 abbrev pub terminate_effect : Model → ℕ → CallEffect
 terminate_effect m room =
     cond (is_short_buffer room) (refusal_effect m no.ReplyBuffer)
     (cond (not (is_in_state m st.ConfirmedSse || is_in_state m st.ConfirmedSch)) (refusal_effect m no.WrongState)
     (ended m conf.Terminated (frame_bytes m.service (tmn [])) None))
 
+-- the link below is released (9.4): nothing is written
 abbrev pub release_effect : Model → CallEffect
 release_effect m = ended m (cond (is_in_state m st.Idle) conf.Nothing conf.Terminated) [] None
 
@@ -116,12 +124,15 @@ admission m (message p) = cond (is_blocked m p) (Err no.DataHeld) (Ok (Ok p))
 
 -- A fault is answered by ERROR: letter, digit, 00. It is of the session's service; in Idle, of the frame's if that is SCH, else SSE.
 
+-- the service of an ERROR
 abbrev pub error_service : Service → ℕ → State → Service
 error_service service sep state = cond (state_mark state == state_mark st.Idle) (cond (svc_bits sep == 1) Sch Sse) service
 
+-- its payload
 abbrev pub error_payload : FaultCode → List ℕ
 error_payload code = code.letter ∷ code.digit ∷ 0 ∷ []
 
+-- what becomes of a fault: the reply is ERROR, and the session is over
 abbrev pub error_effect : Model → ℕ → MachineFault → CallEffect
 error_effect m sep f =
     ended m conf.Error
@@ -133,23 +144,28 @@ abbrev pub effect_of_answer : Model → ℕ → Step → Result Outcome MachineF
 effect_of_answer m sep step (Ok outcome) = record { model = step.model; answer = Ok outcome; reply = step.reply }
 effect_of_answer m sep step (Err f) = error_effect m sep f
 
+-- the effect of a frame, by the effect of its step
 abbrev pub effect_of_step : Model → ℕ → Step → CallEffect
 effect_of_step m sep step = effect_of_answer m sep step step.answer
 
+-- the first byte; 0 where there is none
 abbrev pub first_byte : List ℕ → ℕ
 first_byte [] = 0
 first_byte (b ∷ rest) = b
 
+-- a frame that is read, or refused
 abbrev pub admitted_effect : Scheme → Model → Ancillary → ℕ → Result (Result FrameParts CodecFault) Refusal → CallEffect
 admitted_effect s m a sep (Ok h) = effect_of_step m sep (reading_effect s m a h)
 admitted_effect s m a sep (Err refusal) = refusal_effect m refusal
 
+-- a frame from the peer: refusals 1 and 2, then reading, refusals 3 and 4, then the step
 abbrev pub frame_effect : Scheme → Model → List ℕ → Ancillary → ℕ → CallEffect
 frame_effect s m bytes a room =
     cond (is_short_buffer room) (refusal_effect m no.ReplyBuffer)
     (cond (is_wrong_seed a.seed) (refusal_effect m no.SeedLength)
     (admitted_effect s m a (first_byte bytes) (admission m (reading bytes))))
 
+-- what a call does
 abbrev pub call_effect : Scheme → Model → Call → CallEffect
 call_effect s m (invoke service pid seed room) = invoke_effect s m service pid seed room
 call_effect s m (send plain room) = send_effect s m plain room

@@ -35,6 +35,7 @@ pub record EndsByFault (m : Model) (t : CallEffect) (o : Outcome) (f : Fault) : 
   pub gone : IsFormed (keyring_of m.means) → (is_live t.model.means.live m.link ≡ false) × (is_live t.model.means.live m.secret ≡ false)
   pub reply : TellsFault f t.reply
 
+-- how one call ends
 pub record Ends (m : Model) (t : CallEffect) : Type 0 where
   pub refused : (r : Refusal) → t.answer ≡ Err r → (t.model ≡ m) × (t.reply ≡ [])
   pub length : (o : Outcome) → t.answer ≡ Ok o → o.length ≡ length t.reply

@@ -35,6 +35,7 @@ pub record Ancillary : Type 0 where
 abbrev pub secret_value : Model → List ℕ
 secret_value m = value_of m.means.live SharedSecret m.secret
 
+-- no bytes where there is no such key
 abbrev pub link_value : Model → List ℕ
 link_value m = value_of m.means.live LinkKey m.link
 
@@ -61,6 +62,7 @@ pub record HasLiveKeys (means : Meaning) (state : State) (secret link : ℕ) : T
   pub secret_live : has_secret state ≡ true → is_some (value_in means.live SharedSecret secret) ≡ true
   pub link_live : has_link state ≡ true → is_some (value_in means.live LinkKey link) ≡ true
 
+-- sixteen zeros
 abbrev pub no_seed : List ℕ
 no_seed = replicate 16 0
 

@@ -17,6 +17,7 @@ use Rattle.protocol.specs.declared.faults.SuiteFault.TheVariants.{OtherPid, BadO
 use Rattle.protocol.specs.declared.faults.Cause.{Cause}
 use Rattle.protocol.specs.declared.faults.Cause.TheVariants.{Codec, NotAllowed, OtherService, Suite, WrongNumber}
 
+-- after table 1, Sender and SSE first
 abbrev pub state_mark : State → ℕ
 state_mark st.Idle = 0
 state_mark st.Select = 1
@@ -25,6 +26,7 @@ state_mark st.EstablishedRecipient = 3
 state_mark st.ConfirmedSse = 4
 state_mark st.ConfirmedSch = 5
 
+-- after annex A.3
 abbrev pub confirmation_number : Confirmation → ℕ
 confirmation_number conf.Nothing = 0
 confirmation_number conf.Established = 1
@@ -34,6 +36,7 @@ confirmation_number conf.Terminated = 4
 confirmation_number conf.Error = 5
 confirmation_number conf.Dropped = 6
 
+-- refusals of the calls of an entity
 abbrev pub refusal_number : Refusal → ℕ
 refusal_number no.ReplyBuffer = 1
 refusal_number no.SeedLength = 2
@@ -53,6 +56,7 @@ frame_refusal of_frame.FrameLength = no.FrameLength
 
 -- A fault is the letter of its layer, its digit in ASCII, and the place of the byte that it speaks of.
 
+-- letter, digit and place
 abbrev pub code_at : ℕ → ℕ → ℕ → FaultCode
 code_at letter n place = record { letter = letter; digit = 0x30 + n; place = place }
 

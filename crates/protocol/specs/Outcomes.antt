@@ -4,6 +4,7 @@ use Rattle.protocol.specs.declared.outcomes.Confirmation.{Confirmation}
 use Rattle.protocol.specs.declared.outcomes.Destroyed.{Destroyed}
 use Rattle.protocol.specs.declared.outcomes.Outcome.{Outcome}
 
+-- no key is destroyed
 abbrev pub no_keys : Destroyed
 no_keys = record { link = 0; secret = 0 }
 

@@ -76,6 +76,7 @@ abbrev pub effect_or_fault : {A : Type 0} → Model → Result A SuiteFault → 
 effect_or_fault m (Ok x) f = f x
 effect_or_fault m (Err e) f = fault_effect m (Suite e)
 
+-- the bytes of a frame of that service
 abbrev pub frame_bytes : Service → Contents → List ℕ
 frame_bytes service contents = wire_bytes (record { service = service; contents = contents })
 
@@ -107,14 +108,17 @@ abbrev pub good_record : Option (ℕ × ℕ × List ℕ) → Result (ℕ × ℕ 
 good_record (Some t) = Ok t
 good_record None = Err BadRecord
 
+-- role, number and data of a payload from the peer, or S5
 abbrev pub opened_record : Scheme → Model → List ℕ → Result (ℕ × ℕ × List ℕ) SuiteFault
 opened_record s m payload = good_record (s.open_of (keyring_of m.means) m.link (link_value m) payload)
 
 -- Idle. ACT_REQ: S1, then the Recipient agrees with the seed that the call brings, and answers by its offer.
 
+-- the entity with a new shared secret
 abbrev pub with_secret : Model → List ℕ → Model
 with_secret m value = record m { means = with_key m.means SharedSecret value; secret = m.means.newest + 1 }
 
+-- the entity that takes part in a service as the Recipient
 abbrev pub as_recipient : Model → Service → List ℕ → Model
 as_recipient m service value = record (with_secret m value) { state = st.EstablishedRecipient; service = service; role = Recipient }
 
@@ -122,6 +126,7 @@ as_recipient m service value = record (with_secret m value) { state = st.Establi
 abbrev pub offer_effect : Scheme → Model → List ℕ → Step
 offer_effect s m seed = ongoing_effect m conf.Nothing m.secret (frame_bytes m.service (act_res (s.offer_of (keyring_of m.means) seed)))
 
+-- ACT_REQ in Idle (9.1)
 abbrev pub on_act_req : Scheme → Model → Service → ℕ → List ℕ → List ℕ → Step
 on_act_req s m service pid offer seed =
     cond (not (pid == s.pid)) (fault_effect m (Suite OtherPid))
@@ -130,9 +135,11 @@ on_act_req s m service pid offer seed =
 
 -- Select. ACT_RES: the Sender agrees with the seed that it kept, and asks for verification by its check value.
 
+-- the Sender's VFY_REQ, once it has agreed
 abbrev pub check_effect : Scheme → Model → Step
 check_effect s m = ongoing_effect (record m { state = st.EstablishedSender }) conf.Nothing m.secret (frame_bytes m.service (vfy_req (check_value s m Sender)))
 
+-- ACT_RES in Select (9.1)
 abbrev pub on_act_res : Scheme → Model → List ℕ → Step
 on_act_res s m offer =
     effect_or_fault m (agreement s m.means m.seed offer Sender) (λ value.
@@ -140,9 +147,11 @@ on_act_res s m offer =
 
 -- Established. VFY: the peer's check value is compared, S4; for SCH the link key is derived, S3; the Recipient answers by its own check value.
 
+-- whether a payload is the check value of that role; S4 if not
 abbrev pub verification : Scheme → Model → Role → List ℕ → Result (Unit {0}) SuiteFault
 verification s m role payload = cond (bytes_eq payload (check_value s m role)) (Ok tt) (Err WrongCheck)
 
+-- the entity with a new link key, in Confirmed_SCH
 abbrev pub with_link : Scheme → Model → List ℕ → Model
 with_link s m value = record m {
   means = with_key m.means LinkKey value;
@@ -156,16 +165,19 @@ abbrev pub link_start : Scheme → Model → Result (List ℕ) SuiteFault → Re
 link_start s m (Ok value) = Ok (with_link s m value, m.means.newest + 1)
 link_start s m (Err e) = Err e
 
+-- the entity in the service, and the serial of the key made for it, 0 for SSE
 abbrev pub service_start : Scheme → Model → Service → Result (Model × ℕ) SuiteFault
 service_start s m Sse = Ok (record m { state = st.ConfirmedSse }, 0)
 service_start s m Sch = link_start s m (derivation s m.means m.secret)
 
+-- VFY_REQ in Established_Recipient (9.2)
 abbrev pub on_vfy_req : Scheme → Model → List ℕ → Step
 on_vfy_req s m payload =
     effect_or_fault m (verification s m Sender payload) (λ _.
     effect_or_fault m (service_start s m m.service) (λ c.
     ongoing_effect c.0 conf.Established c.1 (frame_bytes m.service (vfy_res (check_value s m Recipient)))))
 
+-- VFY_RES in Established_Sender (9.2)
 abbrev pub on_vfy_res : Scheme → Model → List ℕ → Step
 on_vfy_res s m payload =
     effect_or_fault m (verification s m Recipient payload) (λ _.
@@ -174,6 +186,7 @@ on_vfy_res s m payload =
 
 -- Confirmed_SCH. ENC.
 
+-- whether there is no byte
 abbrev pub is_empty : List ℕ → Bool
 is_empty xs = length xs == 0
 
@@ -191,11 +204,13 @@ sequence_check s m t =
     (cond (not (t.1 == m.number + 1) || nat_lt s.final t.1) (Err WrongNumber)
     (Ok true))))
 
+-- what becomes of an opened record, by the sequence check
 abbrev pub record_effect : Model → List ℕ → Result Bool Cause → Step
 record_effect m plain (Err cause) = fault_effect m cause
 record_effect m plain (Ok false) = ongoing_effect m conf.Dropped 0 []
 record_effect m plain (Ok true) = ongoing_effect (record m { number = m.number + 1; held = plain }) conf.DataAvailable 0 []
 
+-- ENC in Confirmed_SCH (9.3, 12.3)
 abbrev pub on_enc : Scheme → Model → List ℕ → Step
 on_enc s m payload =
     effect_or_fault m (opened_record s m payload) (λ t.
@@ -204,12 +219,15 @@ on_enc s m payload =
 -- The state and the message together decide. M1 where nothing else is said; outside Idle another service than the session's is M2. An ERROR is
 -- taken in every state and of every service.
 
+-- whether two services are the same
 abbrev pub is_same_service : Service → Service → Bool
 is_same_service a b = service_code a == service_code b
 
+-- a step of the session's service; M2 for the other
 abbrev pub session_effect : Model → Service → Step → Step
 session_effect m service step = cond (not (is_same_service service m.service)) (fault_effect m OtherService) step
 
+-- the step of a message
 abbrev pub message_effect : Scheme → Model → Ancillary → Service → State → Contents → Step
 message_effect s m a service state (error p) = end_effect m conf.Error
 message_effect s m a service st.Idle (act_req pid offer) = on_act_req s m service pid offer a.seed

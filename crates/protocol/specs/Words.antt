@@ -14,6 +14,7 @@ use Rattle.protocol.specs.declared.faults.SuiteFault.TheVariants.{OtherPid, BadO
 use Rattle.protocol.specs.declared.faults.Cause.{Cause}
 use Rattle.protocol.specs.declared.faults.Cause.TheVariants.{Codec, NotAllowed, OtherService, Suite, WrongNumber}
 
+-- what is printed of a state
 abbrev pub state_words : State → List ℕ
 state_words st.Idle = codes "Idle"
 state_words st.Select = codes "Select"
@@ -22,6 +23,7 @@ state_words st.EstablishedRecipient = codes "Established_Recipient"
 state_words st.ConfirmedSse = codes "Confirmed_SSE"
 state_words st.ConfirmedSch = codes "Confirmed_SCH"
 
+-- of a confirmation
 abbrev pub confirmation_words : Confirmation → List ℕ
 confirmation_words conf.Nothing = codes "none"
 confirmation_words conf.Established = codes "Established"
@@ -35,6 +37,7 @@ confirmation_words conf.Dropped = codes "dropped"
 abbrev pub destroyed_words : Destroyed → List ℕ
 destroyed_words keys = codes "destroyed " ++ decimal keys.link ++ codes " " ++ decimal keys.secret
 
+-- of a refusal
 abbrev pub refusal_words : Refusal → List ℕ
 refusal_words no.ReplyBuffer = codes "the reply buffer has fewer than 255 bytes"
 refusal_words no.SeedLength = codes "a seed has 16 bytes"
@@ -47,6 +50,7 @@ refusal_words no.NumberSpent = codes "the last number is used"
 refusal_words no.NothingHeld = codes "no data is held"
 refusal_words no.SmallBuffer = codes "the buffer is too short"
 
+-- of a suite's fault
 abbrev pub suite_words : SuiteFault → List ℕ
 suite_words OtherPid = codes "the PID is not the suite's"
 suite_words BadOffer = codes "the offer is not fit"
@@ -54,6 +58,7 @@ suite_words NoKey = codes "the suite makes no further key"
 suite_words WrongCheck = codes "the check value is wrong"
 suite_words BadRecord = codes "the record is not good"
 
+-- of a cause
 abbrev pub cause_words : Cause → List ℕ
 cause_words (Codec f) = fault_words f
 cause_words NotAllowed = codes "the message is not allowed in this state"

@@ -12,6 +12,7 @@ use Rattle.suite.specs.Schemes.{Scheme, is_role}
 
 -- A call that makes a key, by the key's value: the serial that it answers, and the meaning after.
 
+-- one key more, under the next serial
 abbrev pub with_key : Meaning → KeyKind → List ℕ → Meaning
 with_key m kind value = record {
   root = m.root;
@@ -20,19 +21,23 @@ with_key m kind value = record {
   live = m.live ++ (record { serial = m.newest + 1; kind = kind; value = value } ∷ []);
 }
 
+-- the serial of that key, or the denial
 abbrev pub serial_result : {E : Type 0} → Meaning → Result (List ℕ) E → Result ℕ E
 serial_result m (Ok v) = Ok (m.newest + 1)
 serial_result m (Err e) = Err e
 
+-- the meaning after: as before where the call is denied
 abbrev pub after_making : {E : Type 0} → Meaning → KeyKind → Result (List ℕ) E → Meaning
 after_making m kind (Ok v) = with_key m kind v
 after_making m kind (Err e) = m
 
 -- The conditions of a denial.
 
+-- a seed has sixteen bytes
 abbrev pub is_wrong_seed : List ℕ → Bool
 is_wrong_seed seed = not (length seed == 16)
 
+-- a buffer takes any frame
 abbrev pub is_short_buffer : ℕ → Bool
 is_short_buffer room = nat_lt room MAX_FRAME
 
@@ -47,6 +52,7 @@ value_or_unknown f (Some v) = f v
 
 -- The calls. Room is the length of the buffer that a call may write.
 
+-- the offer of a seed
 abbrev pub offer_result : Scheme → Meaning → List ℕ → ℕ → Result (List ℕ) Denial
 offer_result s m seed room = cond (is_wrong_seed seed || is_short_buffer room) (Err Unfit) (Ok (s.offer_of (keyring_of m) seed))
 
@@ -64,14 +70,17 @@ derive_result s m key =
     value_or_unknown (λ v. cond (is_spent m) (Err Spent) (Ok (s.link_of (keyring_of m) key v)))
     (value_in m.live SharedSecret key)
 
+-- a shared secret's check value for a role
 abbrev pub check_result : Scheme → Meaning → ℕ → ℕ → ℕ → Result (List ℕ) Denial
 check_result s m key role room =
     cond (not (is_role role) || is_short_buffer room) (Err Unfit)
     (value_or_unknown (λ v. Ok (s.check_of (keyring_of m) key v role)) (value_in m.live SharedSecret key))
 
+-- the sixteen bytes of a shared secret
 abbrev pub reveal_result : Meaning → ℕ → ℕ → Result (List ℕ) Denial
 reveal_result m key room = cond (nat_lt room 16) (Err Unfit) (value_or_unknown Ok (value_in m.live SharedSecret key))
 
+-- the payload of data under a link key
 abbrev pub seal_result : Scheme → Meaning → ℕ → ℕ → ℕ → List ℕ → ℕ → Result (List ℕ) Denial
 seal_result s m key role n plain room =
     cond (not (is_role role) || nat_lt MAX_DATA (length plain) || nat_lt MAX_NUMBER n || is_short_buffer room) (Err Unfit)
@@ -89,13 +98,16 @@ open_lengths (Ok (Some t)) = Ok (Some (t.0, t.1, length t.2))
 open_lengths (Ok None) = Ok None
 open_lengths (Err e) = Err e
 
+-- the buffer after: the data in front where the payload is good
 abbrev pub buffer_after_open : Result (Option (ℕ × ℕ × List ℕ)) Denial → List ℕ → List ℕ
 buffer_after_open (Ok (Some t)) buffer = with_front t.2 buffer
 buffer_after_open (Ok None) buffer = buffer
 buffer_after_open (Err e) buffer = buffer
 
+-- whether a key of that serial is live
 abbrev pub destroy_result : Meaning → ℕ → Result (Unit {0}) Denial
 destroy_result m key = cond (is_live m.live key) (Ok tt) (Err Unknown)
 
+-- the meaning after
 abbrev pub after_destroy : Meaning → ℕ → Meaning
 after_destroy m key = record { root = m.root; last = m.last; newest = m.newest; live = keys_without m.live key }

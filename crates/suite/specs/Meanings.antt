@@ -4,6 +4,7 @@ use Rattle.std.specs.List.{AllByRecursion}
 use Rattle.suite.specs.declared.types.KeyKind.{KeyKind}
 use Rattle.suite.specs.Numbers.{kind_number}
 
+-- each number is a byte
 abbrev pub IsBytes : List ℕ → Type 0
 IsBytes xs = AllByRecursion (λ x. x < 256) xs
 
@@ -12,6 +13,7 @@ pub record IsBytes16 (xs : List ℕ) : Type 0 where
   pub long : length xs ≡ 16
   pub bytes : IsBytes xs
 
+-- a live key
 pub record Key : Type 0 where
   pub serial : ℕ
   pub kind : KeyKind
@@ -30,6 +32,7 @@ pub record Keyring : Type 0 where
   pub newest : ℕ
   pub live : List Key
 
+-- all that a suite means but its last serial
 abbrev pub keyring_of : Meaning → Keyring
 keyring_of m = record { root = m.root; newest = m.newest; live = m.live }
 
@@ -37,6 +40,7 @@ keyring_of m = record { root = m.root; newest = m.newest; live = m.live }
 abbrev pub with_last : Meaning → ℕ → Meaning
 with_last m last = record { root = m.root; last = last; newest = m.newest; live = m.live }
 
+-- whether two kinds of key are the same
 abbrev pub is_same_kind : KeyKind → KeyKind → Bool
 is_same_kind k j = kind_number k == kind_number j
 
@@ -49,6 +53,7 @@ value_in (k ∷ ks) kind n = cond (k.serial == n && is_same_kind k.kind kind) (S
 abbrev pub value_of : List Key → KeyKind → ℕ → List ℕ
 value_of ks kind n = unwrap_or (value_in ks kind n) []
 
+-- whether a key of that serial is live
 abbrev pub is_live : List Key → ℕ → Bool
 is_live [] n = false
 is_live (k ∷ ks) n = k.serial == n || is_live ks n

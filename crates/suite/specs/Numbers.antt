@@ -16,6 +16,7 @@ role_byte Recipient = 2
 abbrev pub role_of : ℕ → Result Role Denial
 role_of b = cond (b == role_byte Sender) (Ok Sender) (cond (b == role_byte Recipient) (Ok Recipient) (Err Unfit))
 
+-- the number of a kind of key
 abbrev pub kind_number : KeyKind → ℕ
 kind_number SharedSecret = 1
 kind_number LinkKey = 2

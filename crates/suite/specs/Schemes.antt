@@ -41,6 +41,7 @@ numbers_of s = record {
   last_number = s.final;
 }
 
+-- whether a byte stands for a role
 abbrev pub is_role : ℕ → Bool
 is_role r = r == role_byte Sender || r == role_byte Recipient
 
@@ -57,6 +58,7 @@ pub record IsUnder (root : List ℕ) (k : Keyring) : Type 0 where
   pub formed : IsFormed k
   pub same : k.root ≡ root
 
+-- the laws that every kind of suite keeps
 pub record IsLawful (s : Scheme) : Type 0 where
   -- the numbers
   pub pid_byte : s.pid < 256

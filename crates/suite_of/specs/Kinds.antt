@@ -7,6 +7,7 @@ use Rattle.suite.specs.declared.types.Role.TheVariants.{Sender, Recipient}
 use Rattle.suite.specs.Schemes.{Scheme, is_role}
 use Rattle.suite_of.specs.Payloads.{payload_body, with_field, payload_parts}
 
+-- the numbers and functions of a kind
 pub record KindFunctions : Type 0 where
   pub pid : ℕ
   pub check_length : ℕ

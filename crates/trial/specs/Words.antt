@@ -4,5 +4,6 @@ use Rattle.std.specs.Fmt.{decimal}
 use Rattle.suite.specs.Words.{kind_text}
 use Rattle.trial.specs.declared.peer.Key.{Key}
 
+-- kind and serial
 abbrev pub key_text : Key → List ℕ
 key_text key = kind_text key.kind ++ codes ", serial " ++ decimal key.serial
