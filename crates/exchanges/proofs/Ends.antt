@@ -6,8 +6,8 @@ use Rattle.frame.specs.Frames.{tmn}
 use Rattle.suite.specs.Schemes.{Scheme, IsLawful}
 use Rattle.protocol.specs.declared.outcomes.Confirmation.TheVariants as conf
 use Rattle.protocol.specs.Models.{Model, idle_model}
-use Rattle.protocol.specs.Steps.{frame_bytes}
-use Rattle.protocol.specs.Calls.{Call, terminate, CallEffect, call_effect, ended}
+use Rattle.protocol.specs.Steps.{frame_bytes, idle_effect}
+use Rattle.protocol.specs.Calls.{Call, terminate, CallEffect, call_effect}
 use Rattle.histories.specs.Histories.{entry_of}
 use Rattle.exchanges.specs.Peers.{Peers, next_beside, next_room, SetUp, swapped_peers, activated_peers, Transfer, after_transfers, data_from_one, data_from_other, terminated_peers}
 use Rattle.exchanges.specs.Exchanges.{IsReady, IsConfirmed, AllRecordData, TransfersSucceed, IsTerminated, TerminationSucceeds, HasNoKeyLeft, EndsWell, LinkEnds, SecretEnds}
@@ -51,10 +51,10 @@ record LeftIdle (d e : Peers) : Type 0 where
 module _ (s : Scheme) (v : Service) (d : Peers) (mine : IsConfirmed v d.one.model) (theirs : IsConfirmed v d.other.model) where
   -- the two calls, by what they do
   abbrev ends : CallEffect
-  ends = ended d.one.model conf.Terminated (frame_bytes v (tmn [])) None
+  ends = idle_effect d.one.model conf.Terminated (frame_bytes v (tmn [])) None
 
   abbrev ends' : CallEffect
-  ends' = ended d.other.model conf.Terminated [] None
+  ends' = idle_effect d.other.model conf.Terminated [] None
 
   -- the first of them
   abbrev terminating : Call

@@ -22,8 +22,8 @@ use Rattle.protocol.specs.declared.outcomes.Confirmation.{Confirmation}
 use Rattle.protocol.specs.declared.outcomes.Confirmation.TheVariants as conf
 use Rattle.protocol.specs.Outcomes.{ongoing_outcome}
 use Rattle.protocol.specs.Models.{Model, Ancillary, new_model, no_seed}
-use Rattle.protocol.specs.Steps.{frame_bytes, with_secret, check_value, derivation, sealed_record, good_record, opened_record}
-use Rattle.protocol.specs.Calls.{CallEffect, invoke, send, retrieve_data, retrieve_secret, terminate, frame, call_effect, ended}
+use Rattle.protocol.specs.Steps.{frame_bytes, idle_effect, with_secret, check_value, derivation, sealed_record, good_record, opened_record}
+use Rattle.protocol.specs.Calls.{CallEffect, invoke, send, retrieve_data, retrieve_secret, terminate, frame, call_effect}
 use Rattle.exchanges.specs.Exchanges.{IsConfirmed, IsInLink, IsRecordData}
 use Rattle.exchanges.proofs.Shapes.{bare, agreed_suite, secret_is, selecting, sharing, linking}
 
@@ -199,13 +199,13 @@ module _ (s : Scheme) (m : Model) (room : ℕ) (enough : MAX_FRAME ≤ room) whe
   wide = room_enough room enough
 
   -- TERMINATE
-  pub part_is : (v : Service) → IsConfirmed v m → call_effect s m (terminate room) ≡ ended m conf.Terminated (frame_bytes v (tmn [])) None
+  pub part_is : (v : Service) → IsConfirmed v m → call_effect s m (terminate room) ≡ idle_effect m conf.Terminated (frame_bytes v (tmn [])) None
   part_is Sse c = let state = c.state in let service = c.service in rw (wide, state, service)
   part_is Sch c = let state = c.state in let service = c.service in rw (wide, state, service)
 
   -- TMN
   pub parted_is : (v : Service) (beside : Ancillary) → IsConfirmed v m → IsBytes16 beside.seed
-      → call_effect s m (frame (frame_bytes v (tmn [])) beside room) ≡ ended m conf.Terminated [] None
+      → call_effect s m (frame (frame_bytes v (tmn [])) beside room) ≡ idle_effect m conf.Terminated [] None
   parted_is Sse beside c h =
       let long = eq-eqb (length beside.seed) 16 h.long in
       let state = c.state in

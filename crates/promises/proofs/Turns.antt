@@ -9,7 +9,8 @@ use Rattle.protocol.specs.declared.refusals.Refusal.{Refusal}
 use Rattle.protocol.specs.declared.faults.Fault.{Fault}
 use Rattle.protocol.specs.Numbers.{state_mark, confirmation_number}
 use Rattle.protocol.specs.Models.{Model, without_key}
-use Rattle.protocol.specs.Calls.{Call, invoke, send, retrieve_data, retrieve_secret, terminate, frame, release, refusal_effect, ended}
+use Rattle.protocol.specs.Steps.{idle_effect}
+use Rattle.protocol.specs.Calls.{Call, invoke, send, retrieve_data, retrieve_secret, terminate, frame, release, refusal_effect}
 use Rattle.histories.specs.Histories.{is_member, serial_list, is_retrieved_by, serials_made_in, serials_destroyed_in, session_started}
 use Rattle.promises.proofs.Cases.{clash}
 use Rattle.promises.proofs.Books.{Clears, none, one, two}
@@ -85,7 +86,7 @@ both_gone root last n v w h =
     let apart : eqb n (n + 1) ≡ false = ne_eqb n (n + 1) (λ x. omega arith) in
     rw (ne', apart, self', ne, self) refl
 
-pub did_ended : (s : Scheme) (c : Call) (k : Confirmation) (r : List ℕ) (f : Option Fault) {m : Model} → eqb (confirmation_number k) 1 ≡ false → HasForm s m → Did s c m (ended m k r f)
+pub did_ended : (s : Scheme) (c : Call) (k : Confirmation) (r : List ℕ) (f : Option Fault) {m : Model} → eqb (confirmation_number k) 1 ≡ false → HasForm s m → Did s c m (idle_effect m k r f)
 did_ended s c k r f e (at_idle b) = ends (at_idle b) refl refl refl refl (none_started _ e) none (λ x. clash false refl x)
 did_ended s c k r f e (at_select b h) = ends (at_idle b) refl refl refl refl (none_started _ e) none (λ x. clash false refl x)
 did_ended s c k r f e (at_secret {root} {last} {n} {v} state h o) =

@@ -45,10 +45,6 @@ refusal_effect m refusal = record { model = m; answer = Err refusal; reply = [] 
 abbrev pub keyless_effect : Model → Confirmation → List ℕ → CallEffect
 keyless_effect m confirmation reply = ongoing_effect m confirmation 0 reply
 
--- the session ends
-abbrev pub ended : Model → Confirmation → List ℕ → Option Fault → CallEffect
-ended m confirmation reply f = idle_effect m confirmation reply f
-
 -- Requests. Refusals are tried in the order in which they stand.
 
 -- whether the entity is in that state
@@ -94,11 +90,11 @@ abbrev pub terminate_effect : Model → ℕ → CallEffect
 terminate_effect m room =
     cond (is_short_buffer room) (refusal_effect m no.ReplyBuffer)
     (cond (not (is_in_state m st.ConfirmedSse || is_in_state m st.ConfirmedSch)) (refusal_effect m no.WrongState)
-    (ended m conf.Terminated (frame_bytes m.service (tmn [])) None))
+    (idle_effect m conf.Terminated (frame_bytes m.service (tmn [])) None))
 
 -- the link below is released (9.4): nothing is written
 abbrev pub release_effect : Model → CallEffect
-release_effect m = ended m (cond (is_in_state m st.Idle) conf.Nothing conf.Terminated) [] None
+release_effect m = idle_effect m (cond (is_in_state m st.Idle) conf.Nothing conf.Terminated) [] None
 
 -- Frames.
 
@@ -135,7 +131,7 @@ error_payload code = code.letter ∷ code.digit ∷ 0 ∷ []
 -- what becomes of a fault: the reply is ERROR, and the session is over
 abbrev pub error_effect : Model → ℕ → MachineFault → CallEffect
 error_effect m sep f =
-    ended m conf.Error
+    idle_effect m conf.Error
     (frame_bytes (error_service m.service sep f.state) (error (error_payload (cause_code f.cause))))
     (Some (record { machine = f; message = msg_bits sep }))
 
