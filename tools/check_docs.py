@@ -1,6 +1,6 @@
 """Checks that what the documents name exists: the gate runs it.
 
-usage: python3 tools/check_docs.py      in the project's folder
+usage: python3 tools/check_docs.py [--count]      in the project's folder; --count first writes the numbers of lines into README.md
 
 docs/REVIEW.md: each definition in its file of `specs/`, each function, clause, invariant and type of a contract in its crate, each
 must-fail edit and each refused program; and that no edit and no refused program is missing there. README.md: the table of the trusted
@@ -117,12 +117,25 @@ def trusted_files():
             yield file
 
 
+def line_count(file):
+    return file.read_text(encoding='utf-8').count('\n')
+
+
+def count_lines():
+    path = pathlib.Path('README.md')
+    text = path.read_text(encoding='utf-8')
+    for file in trusted_files():
+        row = rf'(\| `{file.relative_to("crates")}` \| )\d+( \|)'
+        text = re.sub(row, rf'\g<1>{line_count(file)}\g<2>', text)
+    path.write_text(text, encoding='utf-8')
+
+
 def check_reading():
     text = pathlib.Path('README.md').read_text(encoding='utf-8')
     counted = {path: int(lines) for path, lines in re.findall(r'\| `([a-z_0-9]+/specs/\w+\.antt)` \| (\d+) \|', text)}
     for file in trusted_files():
         name = str(file.relative_to('crates'))
-        lines = file.read_text(encoding='utf-8').count('\n')
+        lines = line_count(file)
         if counted.pop(name, None) != lines:
             report('README.md', f'the reading does not have {name} with {lines} lines')
     for name in counted:
@@ -152,6 +165,8 @@ def check_paths():
 
 
 if __name__ == '__main__':
+    if '--count' in sys.argv[1:]:
+        count_lines()
     for check in (check_review, check_reading, check_proof_files, check_example, check_paths):
         check()
     for line in wrong:
