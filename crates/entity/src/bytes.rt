@@ -27,16 +27,6 @@ pub(crate) fn sixteen(seed: &[u8]) -> Result<&[u8; 16], Refusal>
     seed.as_array::<16>().ok_or(Refusal::SeedLength)
 }
 
-// Writes bytes to the front of a buffer, and answers how many.
-pub(crate) fn write_front(bytes: &[u8], out: &mut [u8]) -> usize
-    requires { length bytes.now ≤ length out.old }
-    ensures answer { result ≡ length bytes.now }
-    ensures buffer { out.new ≡ with_front bytes.now out.old }
-{
-    out[..bytes.len()].copy_from_slice(bytes);
-    bytes.len()
-}
-
 // Writes a message to the front of a buffer that takes any frame, and answers its length.
 pub(crate) fn put(service: Service, body: Body<'_>, reply: &mut [u8]) -> usize
     requires room { MAX_FRAME ≤ length reply.old }

@@ -1,7 +1,7 @@
 ghost use Rattle.std.specs.Prelude.{◌≡◌, ℕ, ◌-◌, ◌≤◌, ◌==◌, List, [], length, take, drop, replicate};
 ghost use Rattle.suite.specs.declared.limits.TheConstants.{MAX_DATA};
 
-use crate::bytes::write_front;
+use buffers::write_front;
 use std::marker::Model;
 use suite::MAX_DATA;
 
@@ -36,7 +36,7 @@ impl Held {
         ensures { result ≡ plain.now }
     {
         let mut place = [0; MAX_DATA];
-        let filled = write_front(plain, &mut place);
+        let filled = write_front(plain, &mut place).unwrap();
         Held { place, filled }
     }
 

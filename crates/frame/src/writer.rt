@@ -5,7 +5,7 @@ ghost use Rattle.frame.specs.Writing.{writing_result, numbered_result, is_tmn_wi
 
 use super::faults::Refusal;
 use super::types::{Body, Message, MessageKind, Service};
-use buffers::{MAX_FRAME, MAX_PAYLOAD};
+use buffers::{MAX_FRAME, MAX_PAYLOAD, write_front};
 
 fn sep(service: Service, kind: MessageKind) -> u8
     ensures { result ≡ sep_of service kind }
@@ -24,18 +24,15 @@ fn has_frame(body: &Body<'_>) -> bool
     }
 }
 
-// Writes `head` and then the payload to the front of `out`, and answers their length. Each such function asks for room of its own, and
-// says of answer and bytes one fact a clause.
+// Writes `head` and then the payload to the front of `out`, and returns their length. This and `put` require room, since `write` has tested
+// it before.
 fn put_frame(head: &[u8], payload: &[u8], out: &mut [u8]) -> usize
     requires { length head.now + length payload.now ≤ length out.old }
     ensures answer { result ≡ length (head.now ++ payload.now) }
     ensures bytes { out.new ≡ with_front (head.now ++ payload.now) out.old }
 {
-    let start = head.len();
-    let end = start + payload.len();
-    out[..start].copy_from_slice(head);
-    out[start..end].copy_from_slice(payload);
-    end
+    let start = write_front(head, out).unwrap();
+    start + write_front(payload, &mut out[start..]).unwrap()
 }
 
 fn put(message: &Message<'_>, out: &mut [u8]) -> usize

@@ -1,13 +1,15 @@
 ghost use Rattle.std.specs.Prelude.{◌≡◌, ◌≤◌, [], length};
+ghost use Rattle.buffers.specs.declared.limits.TheConstants.{MAX_FRAME};
 
+use buffers::{MAX_FRAME, write_front};
 use protocol::{Outcome, Refusal};
 
 /// The bytes that a call wrote to the front of its buffer, or the data of a record: at most 255.
 #[derive(Clone, Copy)]
 pub struct Written {
-    bytes: [u8; 255],
+    bytes: [u8; MAX_FRAME],
     length: usize,
-    ghost fits: { length ≤ 255 },
+    ghost fits: { length ≤ MAX_FRAME },
 }
 
 impl Written {
@@ -17,18 +19,17 @@ impl Written {
         ensures { written_bytes result ≡ [] }
     {
         Written {
-            bytes: [0; 255],
+            bytes: [0; MAX_FRAME],
             length: 0,
         }
     }
 
     pub(crate) fn new(written: &[u8]) -> Written
-        requires { length written.now ≤ 255 }
+        requires { length written.now ≤ MAX_FRAME }
         ensures { written_bytes result ≡ written.now }
     {
-        let mut bytes = [0; 255];
-        let length = written.len();
-        bytes[..length].copy_from_slice(written);
+        let mut bytes = [0; MAX_FRAME];
+        let length = write_front(written, &mut bytes).unwrap();
         Written { bytes, length }
     }
 

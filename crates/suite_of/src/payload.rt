@@ -5,8 +5,9 @@ ghost use Rattle.suite.specs.Calls.{open_lengths, buffer_after_open};
 ghost use Rattle.suite.specs.Numbers.{role_byte};
 ghost use Rattle.suite_of.specs.Payloads.{payload_body, with_field, masked_parts, payload_parts};
 
-use super::bytes::{same, write};
+use super::bytes::same;
 use super::kind::Kind;
+use buffers::write_front;
 use suite::Role;
 
 // Role and number.
@@ -19,7 +20,8 @@ fn field_length<K: Kind>() -> usize
     K::numbers().overhead - HEAD
 }
 
-// Writes all of a payload but its field to the front of a buffer, and answers how many bytes that is.
+// Writes all of a payload but its field to the front of a buffer, and returns how many bytes that is. This and the functions below require
+// room, since the calls of a suite have tested the buffer before.
 fn write_body<K: Kind>(
     value: &[u8; 16],
     role: Role,
@@ -32,7 +34,7 @@ fn write_body<K: Kind>(
     ensures buffer { out.new ≡ with_front (payload_body (K.functions.stream_of value.now (role_byte role) number) (role_byte role) number plain.now) out.old }
 {
     let [a, b, c, d] = number.to_be_bytes();
-    let head = write(&[role.byte(), a, b, c, d], out);
+    let head = write_front(&[role.byte(), a, b, c, d], out).unwrap();
     let end = head + plain.len();
     let masked = &mut out[head..end];
     masked.copy_from_slice(plain);
@@ -54,7 +56,7 @@ pub(crate) fn write_payload<K: Kind>(
 {
     let end = write_body::<K>(value, role, number, plain, out);
     let field = K::field(value, &out[..end]);
-    end + write(&field[..field_length::<K>()], &mut out[end..])
+    end + write_front(&field[..field_length::<K>()], &mut out[end..]).unwrap()
 }
 
 // Role, number and masked data of a payload; none if it is not good.
@@ -84,7 +86,7 @@ pub(crate) fn read_payload<K: Kind>(
     ensures buffer { out.new ≡ buffer_after_open (Ok (payload_parts K.functions.field_length (K.functions.field_of value.now) (K.functions.stream_of value.now) payload.now)) out.old }
 {
     let (role, number, masked) = parts::<K>(value, payload)?;
-    let n = write(masked, out);
+    let n = write_front(masked, out).unwrap();
     K::stream(value, role, number, &mut out[..n]);
     Some((role.byte(), number, n))
 }

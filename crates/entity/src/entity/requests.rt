@@ -4,10 +4,10 @@ ghost use Rattle.entity.specs.Views.{view};
 
 use super::Entity;
 use super::records::is_record_length;
-use crate::bytes::{has_room, put, sixteen, write_front};
+use crate::bytes::{has_room, put, sixteen};
 use crate::held::Held;
 use crate::slip::Slip;
-use buffers::MAX_FRAME;
+use buffers::{MAX_FRAME, write_front};
 use frame::{Body, Service};
 use protocol::{Confirmation, Outcome, Refusal, State};
 use suite::{Role, Suite};
@@ -83,11 +83,7 @@ impl<S: Suite> Entity<S> {
                 if self.held.is_empty() {
                     return Err(Refusal::NothingHeld);
                 }
-                let data = self.held.bytes();
-                if out.len() < data.len() {
-                    return Err(Refusal::SmallBuffer);
-                }
-                let length = write_front(data, out);
+                let length = write_front(self.held.bytes(), out).ok_or(Refusal::SmallBuffer)?;
                 self.held = Held::nothing();
                 Ok(Outcome::ongoing(Confirmation::Nothing, length, 0))
             }

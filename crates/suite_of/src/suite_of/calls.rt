@@ -9,10 +9,9 @@ ghost use Rattle.suite_of.specs.Kinds.{scheme_of};
 ghost use Rattle.suite_of.specs.KindProofs.{lawful_scheme};
 
 use super::SuiteOf;
-use crate::bytes::write;
 use crate::kind::Kind;
 use crate::payload::{read_payload, write_payload};
-use buffers::{MAX_FRAME, MAX_PAYLOAD};
+use buffers::{MAX_FRAME, MAX_PAYLOAD, write_front};
 use key_store::KeyStore;
 use std::marker::PhantomData;
 use suite::{Denial, HasMeaning, KeyKind, KindNumbers, MAX_DATA, MAX_NUMBER, Role, Suite};
@@ -82,7 +81,7 @@ impl<K: Kind> Suite for SuiteOf<K> {
         if seed.len() != 16 || out.len() < MAX_FRAME {
             return Err(Denial::Unfit);
         }
-        Ok(write(seed, out))
+        Ok(write_front(seed, out).unwrap())
     }
 
     fn agree(&mut self, seed: &[u8], offer: &[u8], role: u8) -> Result<u32, Denial> {
@@ -105,14 +104,14 @@ impl<K: Kind> Suite for SuiteOf<K> {
         }
         let value = self.value(KeyKind::SharedSecret, key)?;
         let block = K::check(value, role);
-        Ok(write(&block[..K::numbers().check_length], out))
+        Ok(write_front(&block[..K::numbers().check_length], out).unwrap())
     }
 
     fn reveal(&self, key: u32, out: &mut [u8]) -> Result<usize, Denial> {
         if out.len() < 16 {
             return Err(Denial::Unfit);
         }
-        Ok(write(self.value(KeyKind::SharedSecret, key)?, out))
+        Ok(write_front(self.value(KeyKind::SharedSecret, key)?, out).unwrap())
     }
 
     fn seal(

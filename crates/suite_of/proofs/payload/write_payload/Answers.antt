@@ -22,10 +22,10 @@ returns g c =
     let field : take c.field_length.result c.field-field.result ≡ f.field_of v body = search rules in
     let e = c.write_body-end.result in
     let tag = f.field_of v body in
-    let w : c.write.result ≡ length tag = c.write.ensures.answer ∙ ap length field in
+    let w : c.unwrap.result ≡ length tag = search rules in
     let n : length (body ++ tag) ≡ length body + length tag = length-append body tag in
-    let last = c.write.ensures.buffer ∙ ap (λ z. with_front z (take (length c.write_body-end.new.out - e) (drop e c.write_body-end.new.out))) field ∙ ap (λ z. with_front tag (take (length z - e) (drop e z))) first in
+    let last : c.write_front.new.out ≡ with_front tag (take (length (with_front body out) - e) (drop e (with_front body out))) = search rules in
     record {
       answer = omega arith;
-      buffer = ap (λ z. put_mid e (length z - e) z c.write.new.out) first ∙ over_rest body tag out c.write.new.out e (length (with_front body out) - e) end (omega (arith, c.requires)) refl last;
+      buffer = ap (λ z. put_mid e (length z - e) z c.write_front.new.out) first ∙ over_rest body tag out c.write_front.new.out e (length (with_front body out) - e) end (omega (arith, c.requires)) refl last;
     }
