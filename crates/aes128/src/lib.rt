@@ -1,4 +1,4 @@
-// AES-128 encryption (FIPS 197).
+// AES-128 encryption (FIPS 197). There is no decryption, since no suite needs it.
 #![tactic(auto)]
 
 ghost use Rattle.std.specs.Prelude.{◌≡◌};
@@ -13,14 +13,14 @@ use rounds::encrypt_with;
 use schedule::expand_key;
 pub use tables::sbox;
 
-/// A key, expanded once for any number of blocks.
+/// An AES-128 key, expanded once for any number of blocks. It stays in memory until its place is used again.
 #[derive(Drop)]
 pub struct Aes128 {
     keys: [[u32; 4]; 11],
 }
 
 impl Aes128 {
-    /// Expands a key of 16 bytes (FIPS 197, clause 5.2).
+    /// Expands a key of 16 bytes to 11 round keys (FIPS 197, section 5.2).
     pub fn new(key: &[u8; 16]) -> Aes128
         ensures { words_of result ≡ schedule_of key.now }
     {
@@ -29,7 +29,7 @@ impl Aes128 {
         }
     }
 
-    /// Encrypts a block of 16 bytes (FIPS 197, clause 5.1).
+    /// Encrypts a block of 16 bytes, and returns the 16 bytes of its cipher (FIPS 197, section 5.1).
     pub fn encrypt(&self, block: &[u8; 16]) -> [u8; 16]
         ensures { result ≡ cipher_with (words_of self.now) block.now }
     {

@@ -33,7 +33,7 @@ fn columns(s: [u32; 4]) -> [[u8; 4]; 4]
     ]
 }
 
-// The sixteen bytes of four words.
+// The sixteen bytes of four words, column after column.
 fn state_bytes(s: [u32; 4]) -> [u8; 16]
     ensures { result ≡ state_of s }
 {
@@ -105,8 +105,8 @@ fn mixed_columns(columns: [[u8; 4]; 4]) -> [u32; 4]
     columns.map(mixed_column)
 }
 
-// One block, under a key that is expanded. Each round begins with its key: where it ends with the next one, the compiler makes vectors
-// of the state, which takes a third longer. Keys by their places: a pattern of a lent array of arrays is not covered by the check.
+// One block, under an expanded key. Each round begins with its key: where it ends with the next one, the compiler makes vectors of the
+// state, which takes a third longer. The keys are taken by index, since the check does not cover a pattern of a borrowed array of arrays.
 pub(super) fn encrypt_with(keys: &[[u32; 4]; 11], input: &[u8; 16]) -> [u8; 16]
     ensures { result ≡ cipher_with (words_of_round_keys keys.now) input.now }
 {

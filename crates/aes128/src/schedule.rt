@@ -1,10 +1,11 @@
-// The key expansion.
+// The key expansion (FIPS 197, section 5.2).
 ghost use Rattle.std.specs.Prelude.{◌≡◌};
 ghost use Rattle.aes128.specs.Cipher.{sub_word, rot_word, schedule};
 ghost use Rattle.aes128.specs.Fours.{key_after, words_of_round_keys};
 
 use super::rounds::{sub_column, words};
 
+// The round constants, each in its word's highest byte.
 const RCON: [u32; 10] = [
     0x0100_0000,
     0x0200_0000,
@@ -37,7 +38,7 @@ fn next_key(key: &[u32; 4], rcon: u32) -> [u32; 4]
     [a, b, c, d ^ c]
 }
 
-// The key schedule, each key from the one before it. By places: no proof knows what is written through an adapter of `iter_mut`.
+// The key schedule, each key from the one before it. By index, since no proof knows what is written through an adapter of `iter_mut`.
 pub(super) fn expand_key(key: &[u8; 16]) -> [[u32; 4]; 11]
     ensures { words_of_round_keys result ≡ schedule key.now }
 {

@@ -23,8 +23,8 @@ const SBOX: [u8; 256] = [
     0x8c, 0xa1, 0x89, 0x0d, 0xbf, 0xe6, 0x42, 0x68, 0x41, 0x99, 0x2d, 0x0f, 0xb0, 0x54, 0xbb, 0x16,
 ];
 
-// What a byte adds to its mixed column, by its row in the state. Each row is the first one rotated: one row with `rotate_right` makes a
-// block 6 percent slower, and a block has to be no slower than with mbedTLS's software cipher.
+// What a byte adds to its mixed column, by its row in the state. Each row is the first one rotated. All four are stored, since one row with
+// `rotate_right` makes a block 6 percent slower, and a block has to take at most as long as with mbedTLS's software cipher.
 const MIXED: [[u32; 256]; 4] = [
     [
         0xc66363a5, 0xf87c7c84, 0xee777799, 0xf67b7b8d, 0xfff2f20d, 0xd66b6bbd, 0xde6f6fb1,
@@ -184,7 +184,8 @@ const MIXED: [[u32; 256]; 4] = [
     ],
 ];
 
-/// The S-box by its table. Its rule takes the multiplicative inverse, and that is one.
+/// Returns the S-box at a byte, from its table (FIPS 197, section 5.1). The rule's inverse is the multiplicative inverse of every byte
+/// except 0, as the contract states.
 pub fn sbox(a: u8) -> u8
     ensures value { result ≡ sub_byte a }
     ensures inverse { InverseStands }

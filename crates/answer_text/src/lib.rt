@@ -1,4 +1,4 @@
-// What a call of an entity answered, as text in two forms. A program puts its own names in front.
+// What a call of an entity returned and wrote, as text in two forms. A program prints its own names before it.
 #![tactic(auto)]
 
 ghost use Rattle.std.specs.Prelude.{◌≡◌, IfOk, Some, string_bytes};
@@ -8,15 +8,16 @@ use protocol::{Fault, Outcome, Refusal, State};
 use std::alloc::{AllocError, Global};
 use std::fmt;
 
-/// What a call of an entity answered, and where it left the entity. `Plain` and `Worded` print it.
+/// What a call of an entity returned and wrote, and the state that it left the entity in. `Plain` and `Worded` print it.
 #[derive(Clone, Copy, Debug)]
 pub struct Answer<'a> {
+    /// The outcome, or the refusal with its number, 1 to 10.
     pub answer: Result<Outcome, Refusal>,
     /// The text of the bytes that the call wrote, as `bytes_text` returns it.
     pub wrote: &'a str,
     /// The entity's state after the call.
     pub state: State,
-    /// The entity's number after the call.
+    /// The entity's number after the call: that of the newest record, or 0 where no link session runs.
     pub number: u32,
 }
 
@@ -87,7 +88,7 @@ impl<'a> fmt::Display for Worded<'a> {
     }
 }
 
-// What both forms say of an outcome after its confirmation.
+// What both forms have in common: an outcome without its confirmation.
 #[derive(Clone, Copy)]
 struct ReportText<'a> {
     outcome: Outcome,
@@ -105,6 +106,7 @@ impl<'a> fmt::Display for ReportText<'a> {
     }
 }
 
+// The serials of the keys that a call made and destroyed, each 0 for none.
 #[derive(Clone, Copy)]
 struct KeysText(Outcome);
 
@@ -139,7 +141,8 @@ impl fmt::Display for FaultText {
     }
 }
 
-/// The text of the bytes that a call wrote: a dash for none, else two capital hexadecimal digits for each.
+/// Returns the text of the bytes that a call wrote: a dash for none, else two capital hexadecimal digits for each. The error is that there
+/// is no memory for it.
 pub fn bytes_text(heap: Global, bytes: &[u8]) -> Result<String, AllocError>
     ensures { IfOk result (λ text. string_bytes text ≡ bytes_text bytes.now) }
 {

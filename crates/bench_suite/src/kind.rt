@@ -16,10 +16,11 @@ const NUMBERS: KindNumbers = KindNumbers {
     last_number: 65_535,
 };
 
-/// The kind of the bench suite.
+/// The kind of the bench suite, PID F0, whose steps can be followed by hand. It protects nothing: it is for trials.
 #[derive(Clone, Copy)]
 pub struct BenchKind;
 
+/// A bench suite: offers of 16 bytes, check values of 4, payloads 6 bytes longer than their data, numbers 0 to 65,535.
 pub type Bench = SuiteOf<BenchKind>;
 
 impl Kind for BenchKind {

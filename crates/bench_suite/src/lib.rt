@@ -1,4 +1,4 @@
-// The bench suite: XOR, and a sum at the end. It protects nothing: it is for trials.
+// The bench suite, for trials: XOR, and a sum at the end of a payload.
 #![tactic(auto)]
 
 mod kind;

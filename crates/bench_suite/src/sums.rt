@@ -1,7 +1,7 @@
 ghost use Rattle.std.specs.Prelude.{◌≡◌};
 ghost use Rattle.bench_suite.specs.Benches.{sum_byte};
 
-// The sum of all bytes modulo 256.
+// Returns the sum of all bytes modulo 256.
 pub(super) fn sum_byte(bytes: &[u8]) -> u8
     ensures { result ≡ sum_byte bytes.now }
 {

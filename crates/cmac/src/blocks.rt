@@ -10,6 +10,7 @@ pub(super) fn xor_block(a: [u8; 16], b: [u8; 16]) -> [u8; 16]
     array::from_fn(|i| a[i] ^ b[i])
 }
 
+// The byte a after the shift, into which the highest bit of the byte b after it moves.
 fn shifted(a: u8, b: u8) -> u8
     ensures { result ≡ a * 2 % 256 + b / 128 }
 {
@@ -22,6 +23,7 @@ fn shift_left(s: [u8; 16]) -> [u8; 16]
     array::from_fn(|i| shifted(s[i], if i < 15 { s[i + 1] } else { 0 }))
 }
 
+// What doubling adds where a bit fell out.
 const RB: [u8; 16] = [0, 0, 0, 0, 0, 0, 0, 0, 0, 0, 0, 0, 0, 0, 0, 0x87];
 
 pub(super) fn doubled(s: [u8; 16]) -> [u8; 16]
@@ -31,7 +33,7 @@ pub(super) fn doubled(s: [u8; 16]) -> [u8; 16]
     if s[0] < 128 { t } else { xor_block(t, RB) }
 }
 
-// The bytes, then one bit, then zeros.
+// The bytes, then one bit that is ONE, then zeros.
 pub(super) fn pad(m: &[u8]) -> [u8; 16]
     requires { length m.now < 16 }
     ensures { result ≡ padding m.now }

@@ -10,7 +10,7 @@ mod blocks;
 use aes128::Aes128;
 use blocks::{doubled, pad, xor_block};
 
-/// The subkeys K1 and K2.
+/// Returns the subkeys K1 and K2 of an expanded key, 16 bytes each (RFC 4493, section 2).
 pub fn subkeys(cipher: &Aes128) -> ([u8; 16], [u8; 16])
     ensures first { result.0 ≡ subkey1 (words_of cipher.now) }
     ensures second { result.1 ≡ subkey2 (words_of cipher.now) }
@@ -19,7 +19,7 @@ pub fn subkeys(cipher: &Aes128) -> ([u8; 16], [u8; 16])
     (k1, doubled(k1))
 }
 
-// The last block: whole with K1, or padded with K2.
+// The last block: a whole one XOR K1, a shorter one padded and XOR K2.
 fn last_block(cipher: &Aes128, rest: &[u8]) -> [u8; 16]
     requires { length rest.now ≤ 16 }
     ensures { result ≡ last_block (words_of cipher.now) rest.now }
@@ -31,7 +31,7 @@ fn last_block(cipher: &Aes128, rest: &[u8]) -> [u8; 16]
     }
 }
 
-/// The tag of a text, under a key that is expanded.
+/// Returns the tag of a text of any length, 16 bytes, under an expanded key (RFC 4493, section 2).
 pub fn tag(cipher: &Aes128, text: &[u8]) -> [u8; 16]
     ensures { result ≡ cmac_with (words_of cipher.now) text.now }
 {
@@ -47,7 +47,7 @@ pub fn tag(cipher: &Aes128, text: &[u8]) -> [u8; 16]
     cipher.encrypt(&xor_block(last_block(cipher, rest), x))
 }
 
-/// The tag of a text under a key.
+/// Returns the same tag under a key of 16 bytes.
 pub fn cmac(key: &[u8; 16], text: &[u8]) -> [u8; 16]
     ensures { result ≡ mac_of key.now text.now }
 {

@@ -11,10 +11,12 @@ use std::error::Error;
 use std::fmt;
 use std::fmt::Write;
 
+/// Why a text is not read as bytes.
 #[derive(Clone, Copy, Debug, PartialEq, Eq)]
 pub enum HexError {
-    /// What stands at this place is neither a blank nor two digits.
+    /// What stands at this place, counted in bytes from 0, is neither a blank nor two digits. It is the first such place.
     NotHex(usize),
+    /// There is no memory for the bytes.
     NoMemory,
 }
 
@@ -51,7 +53,7 @@ fn is_blank(c: u8) -> bool
     matches!(c, b' ' | b'\t' | b'\r')
 }
 
-// By ranges of bytes: `char::to_digit` answers a u32, and would need casts on both sides.
+// By ranges of bytes, since `char::to_digit` returns a u32 and would need casts on both sides.
 fn value(c: u8) -> Option<u8>
     ensures { result ≡ value_of c }
 {
@@ -69,7 +71,8 @@ fn byte(high: u8, low: u8) -> Option<u8>
     Some(value(high)? * 16 + value(low)?)
 }
 
-/// Reads a line of bytes.
+/// Returns the bytes of a text: two hexadecimal digits for each, of either case, with any blanks, tabs and carriage returns between bytes.
+/// Errors: `NotHex` with the place of the first thing that is neither, `NoMemory`.
 #[tactic(auto, using(crate::proofs::DecodeSteps::skips, crate::proofs::DecodeSteps::takes))]
 pub fn decode(heap: Global, text: &[u8]) -> Result<Vec<u8>, HexError>
     ensures { Decodes vec_items text.now result }
@@ -90,13 +93,14 @@ pub fn decode(heap: Global, text: &[u8]) -> Result<Vec<u8>, HexError>
     }
 }
 
-/// Writes bytes as capital digits, two to a byte, with nothing between. By the library's format: a second crate for hexadecimal digits
-/// would say the same in one line too.
+/// Returns the text of bytes: two capital hexadecimal digits for each, with nothing between, which `decode` reads as these bytes. The error
+/// is that there is no memory for it.
 #[tactic(auto, using(crate::proofs::RoundTrips::two_capitals, crate::proofs::RoundTrips::spelled_more))]
 pub fn encode(heap: Global, bytes: &[u8]) -> Result<String, AllocError>
     ensures text { IfOk result (λ t. string_bytes t ≡ digits_of bytes.now) }
     ensures back { IfOk result (λ t. bytes_of (string_bytes t) ≡ Ok bytes.now) }
 {
+    // By std's format: another crate for hexadecimal digits would take a line too.
     let mut text = String::new(heap);
     for b in bytes {
         write!(text, "{b:02X}")?;

@@ -17,10 +17,11 @@ const NUMBERS: KindNumbers = KindNumbers {
     last_number: MAX_NUMBER,
 };
 
-/// The kind of the keyed suite.
+/// The kind of the keyed suite, PID F1: AES-CMAC makes keys, check values and tags, AES-128 the stream of a record.
 #[derive(Clone, Copy)]
 pub struct KeyedKind;
 
+/// A keyed suite: offers of 16 bytes, check values of 8, payloads 13 bytes longer than their data, numbers 0 to 16,777,215.
 pub type KeyedSuite = SuiteOf<KeyedKind>;
 
 impl Kind for KeyedKind {

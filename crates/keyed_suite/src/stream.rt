@@ -7,7 +7,7 @@ ghost use Rattle.keyed_suite.specs.Keyed.{counter_block, keystream_byte};
 use aes128::Aes128;
 use suite::Role;
 
-// What is encrypted for the block j of a record's keystream; of j the last four bytes count.
+// The block whose cipher is the block j of a record's stream. Of j it has the lowest four bytes, more than a record needs.
 fn counter(role: Role, number: u32, j: usize) -> [u8; 16]
     ensures { result ≡ counter_block (role_byte role) number j }
 {
@@ -16,7 +16,7 @@ fn counter(role: Role, number: u32, j: usize) -> [u8; 16]
     [role.byte(), a, b, c, d, 0, 0, 0, 0, 0, 0, 0, e, f, g, h]
 }
 
-// XORs the keystream of a record into its data.
+// XORs the stream of a record into its data, from the block 0 on.
 pub(super) fn add_stream(cipher: &Aes128, role: Role, number: u32, bytes: &mut [u8])
     ensures { bytes.new ≡ xor_stream (keystream_byte (words_of cipher.now) (role_byte role) number) 0 bytes.old }
 {

@@ -3,7 +3,8 @@ ghost use Rattle.measured.specs.Repeats.{are_blocks, can_tag, encrypted_block, t
 
 use aes128::Aes128;
 
-// Encrypts a block under a key, and the outcome again, and so on; false, and nothing done, if one of them has not sixteen bytes.
+/// Encrypts a block under a key, then the result, and so on, `times` times, and returns true. Returns false, and changes nothing, if one of
+/// the two does not have 16 bytes.
 #[unsafe(no_mangle)]
 pub extern "C" fn measured_encrypt(key: &[u8], block: &mut [u8], times: u32) -> bool
     ensures answer { result ≡ are_blocks key.now block.old }
@@ -24,8 +25,8 @@ pub extern "C" fn measured_encrypt(key: &[u8], block: &mut [u8], times: u32) -> 
     true
 }
 
-// Writes the tag of a text over its front, and again that of the outcome, and so on; false, and nothing done, if the key has not
-// sixteen bytes or the text has fewer.
+/// Writes the tag of a text over its first 16 bytes, then the tag of the result, and so on, `times` times, and returns true. Returns false,
+/// and changes nothing, if the key does not have 16 bytes or the text has fewer.
 #[unsafe(no_mangle)]
 pub extern "C" fn measured_tag(key: &[u8], text: &mut [u8], times: u32) -> bool
     ensures answer { result ≡ can_tag key.now text.old }

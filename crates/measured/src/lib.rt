@@ -1,4 +1,4 @@
-// What the measurements call from C: a block encrypted, a text tagged and a record sealed and opened, again and again.
+// What the measurements call from C: each call encrypts, tags, or seals and opens many times over.
 #![tactic(auto)]
 
 mod blocks;

@@ -11,7 +11,7 @@ use buffers::MAX_FRAME;
 use keyed_suite::KeyedSuite;
 use suite::{Denial, Role, Suite};
 
-// A link key from a secret that two fixed seeds agree on.
+// Makes a link key of the secret of two fixed seeds, and returns its serial.
 fn link(suite: &mut KeyedSuite) -> Result<u32, Denial>
     requires { meaning_of suite.old ≡ unused_meaning (meaning_of suite.old).root }
     ensures serial { result ≡ Ok 2 }
@@ -21,7 +21,7 @@ fn link(suite: &mut KeyedSuite) -> Result<u32, Denial>
     suite.derive(secret)
 }
 
-// Whether a payload opens as the Sender's record of that number and those data.
+// Returns whether a payload opens as the Sender's record of that number and those data.
 fn opens(suite: &KeyedSuite, link: u32, payload: &[u8], number: u32, plain: &[u8]) -> bool
     ensures { result ≡ is_given_back number plain.now (open_result (scheme_of keyed_functions) (meaning_of suite.now) link payload.now MAX_FRAME) }
 {
@@ -34,7 +34,7 @@ fn opens(suite: &KeyedSuite, link: u32, payload: &[u8], number: u32, plain: &[u8
     }
 }
 
-// Whether a record that the Sender seals opens as itself.
+// Returns whether a record that the Sender seals opens as itself.
 fn crosses(suite: &KeyedSuite, link: u32, number: u32, plain: &[u8]) -> bool
     requires { is_some (value_in (meaning_of suite.now).live LinkKey link) ≡ true }
     ensures { result ≡ is_in_limits plain.now number }
@@ -46,6 +46,7 @@ fn crosses(suite: &KeyedSuite, link: u32, number: u32, plain: &[u8]) -> bool
     }
 }
 
+// Returns how many records of these data, numbered from 1 to `times`, open as themselves.
 fn crossings(suite: &KeyedSuite, link: u32, plain: &[u8], times: u32) -> u32
     requires { is_some (value_in (meaning_of suite.now).live LinkKey link) ≡ true }
     ensures { result ≡ return_count plain.now times }
@@ -59,8 +60,8 @@ fn crossings(suite: &KeyedSuite, link: u32, plain: &[u8], times: u32) -> u32
     crossed
 }
 
-// Seals and opens a record of these data under each number from 1 to `times`, and answers how many came back as they were: none for a
-// root that has not sixteen bytes.
+/// Seals and opens a record of these data under each number from 1 to `times`, and returns how many came out as they were. Returns 0 for a
+/// root that does not have 16 bytes.
 #[unsafe(no_mangle)]
 pub extern "C" fn measured_records(root: &[u8], plain: &[u8], times: u32) -> u32
     ensures { result ≡ return_count_under root.now plain.now times }
