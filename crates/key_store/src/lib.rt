@@ -1,4 +1,4 @@
-// Where a suite keeps its keys: two places of sixteen bytes, all zeros where no key is live.
+// Where a suite keeps its keys: two places of 16 bytes, all zeros where no key is live.
 #![tactic(auto)]
 
 mod place;

@@ -4,7 +4,7 @@ ghost use Rattle.suite.specs.Meanings.{value_in, is_live};
 
 use suite::KeyKind;
 
-/// What a live key goes by.
+/// What a live key is found by.
 #[derive(Clone, Copy, PartialEq, Eq)]
 pub struct Label {
     /// From 1 on.
@@ -13,7 +13,7 @@ pub struct Label {
 }
 
 /// Room for one key of 16 bytes. Without a label no key is live here, and the bytes are zeros.
-/// The value is no part of the Option, since a place without a key has to hold sixteen zeros.
+/// The value is not part of the `Option`, since a place without a key has to hold 16 zeros.
 #[derive(Drop)]
 pub struct Place {
     label: Option<Label>,
@@ -52,14 +52,14 @@ impl Place {
         self.label.is_none()
     }
 
-    // Whether the key of that serial lies here.
+    // Returns whether the key of that serial lies here.
     pub(crate) fn is_live(&self, serial: u32) -> bool
         ensures { result ≡ is_live (key_in self.now) serial }
     {
         self.label.is_some_and(|label| label.serial == serial)
     }
 
-    // The value, if the key of that label lies here.
+    // Returns the value, if the key of that label lies here.
     pub(crate) fn value_of(&self, label: Label) -> Option<&[u8; 16]>
         ensures { option_map (λ x. x.now) result ≡ value_in (key_in self.now) label.kind label.serial }
     {

@@ -7,12 +7,12 @@ use super::place::{Label, Place};
 use std::mem;
 use suite::{Denial, KeyKind};
 
-// The places have names and are no array: that the older key lies in the first is said of the two, in `packed` and `ordered`. There is no
-// Model: the law that a suite's meaning is well formed reads these facts, and a view would hide them. So clauses name the newest serial
-// and the live keys, one fact each.
+// The places have names and are not an array, since `packed` and `ordered` say of the two that the older key lies in the first. There is no
+// `Model`: the law that a suite's meaning is well formed reads these facts, and a view would hide them. So each clause names the newest
+// serial or the live keys.
 
 /// At most two live keys of 16 bytes each, with serials from 1 to the newest, the older key in the first place.
-/// It cannot be dropped, only ended, so that no live key is lost sight of.
+/// It cannot be dropped, only ended, so that no live key is lost.
 pub struct KeyStore {
     newest: u32,
     first: Place,
@@ -39,14 +39,14 @@ impl KeyStore {
         }
     }
 
-    /// The serial of the key made last, or 0 before the first.
+    /// Returns the serial of the key made last, or 0 before the first.
     pub fn newest(&self) -> u32
         ensures { result ≡ newest_of self.now }
     {
         self.newest // 0 before the first
     }
 
-    /// The value of the live key of that kind and serial, or `None` if there is no such key.
+    /// Returns the value of the live key of that kind and serial, or `None` if there is no such key.
     pub fn value_of(&self, kind: KeyKind, serial: u32) -> Option<&[u8; 16]>
         ensures { option_map (λ x. x.now) result ≡ value_in (keys_of self.now) kind serial }
     {
@@ -54,7 +54,7 @@ impl KeyStore {
         self.first.value_of(label).or(self.second.value_of(label))
     }
 
-    // No further key: two are live, or the serials are used up.
+    // Returns whether no further key can be put: two are live, or the serials are used up.
     fn is_spent(&self) -> bool
         ensures { result ≡ is_store_spent self.now }
     {
@@ -107,7 +107,7 @@ impl KeyStore {
         self.second = Place::empty();
     }
 
-    /// Ends the store if no key is live; otherwise the store comes back in the `Err` as it was.
+    /// Ends the store if no key is live. Otherwise it returns the store as it was, in the `Err`.
     pub fn end(self) -> Result<(), KeyStore>
         ensures { result ≡ end_result self }
     {

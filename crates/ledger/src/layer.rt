@@ -38,7 +38,7 @@ impl<S: Suite> Ledger<S> {
         }
     }
 
-    /// Takes the layer off, and gives back the suite below.
+    /// Takes the layer off, and returns the suite below.
     pub fn into_below(self) -> S
         ensures { result ≡ self.below.below }
     {
@@ -72,7 +72,7 @@ impl<S: HasMeaning> HasMeaning for Ledger<S> {
     ghost meaning = { ledger_meaning S.meaning };
 }
 
-// Beside what every layer promises: what the suite below means after, and what the rows are.
+// Besides what every layer promises: what the suite below means after the call, and what the rows are.
 impl<S: Suite> Layer for Ledger<S> {
     ghost use Rattle.ledger.specs.Ledgers.{rows_of};
 
@@ -92,7 +92,8 @@ impl<S: Suite> Layer for Ledger<S> {
         self.below.last_serial()
     }
 
-    // One method for both calls that make a key, with the call below as a closure, needs four clauses and a longer proof to save four lines.
+    // Two methods: one for both calls that make a key, with the call below as a closure, would need four clauses and a longer proof to save
+    // four lines.
     fn agree_through(&mut self, seed: &[u8], offer: &[u8], role: u8) -> Result<u32, Denial> {
         let serial = self.below.agree(seed, offer, role)?;
         self.table.enter(serial, KeyKind::SharedSecret);

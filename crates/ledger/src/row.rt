@@ -10,12 +10,12 @@ use suite::KeyKind;
 pub enum RowMark {
     /// 1: the key is live in the suite.
     Live = 1,
-    /// 2: the key is not live any more.
+    /// 2: the key is no longer live.
     Destroyed = 2,
 }
 
 impl RowMark {
-    /// Its number. A method, since `u8::from` would not say which number it is.
+    /// Its number, 1 or 2. A method, since `u8::from` would not say which number it is.
     pub fn number(self) -> u8
         ensures { result ≡ mark_number self }
     {

@@ -7,7 +7,7 @@ use crate::row::{Row, RowMark};
 use arrayvec::ArrayVec;
 use suite::KeyKind;
 
-// One row for each key that was made, of which there are at most 32.
+// One row for each key that was made through a ledger, at most 32.
 #[derive(Drop)]
 pub(crate) struct Table {
     rows: ArrayVec<Row, 32>,
@@ -29,7 +29,7 @@ impl Table {
         self.rows.as_slice()
     }
 
-    // Puts the row of a key that was just made past the others.
+    // Appends the row of a key that was just made.
     pub(crate) fn enter(&mut self, serial: u32, kind: KeyKind)
         requires { length (table_rows self.old) < 32 }
         ensures { table_rows self.new ≡ table_rows self.old ++ (live_row serial kind ∷ []) }
@@ -41,7 +41,7 @@ impl Table {
         });
     }
 
-    // Marks the row of that serial, where there is one, and no other.
+    // Marks the row of that serial as destroyed, where there is one, and no other.
     #[tactic(auto, using(crate::proofs::TableLaws::strikes))]
     pub(crate) fn strike(&mut self, serial: u32)
         ensures rows { table_rows self.new ≡ rows_with_mark serial (table_rows self.old) }
@@ -53,14 +53,14 @@ impl Table {
     }
 }
 
-// Changes the one row that is lent. It is found by its place, since no proof knows what was written through `iter_mut().find(..)`.
+// Takes one row, which the caller finds by its place: no proof knows what is written through `iter_mut().find(..)`.
 fn mark_destroyed(row: &mut Row)
     ensures { row.new ≡ destroyed_row row.old }
 {
     row.mark = RowMark::Destroyed;
 }
 
-// The place of the row of that serial.
+// Returns the place of the row of that serial.
 fn place_of(rows: &[Row], serial: u32) -> Option<usize>
     ensures { result ≡ position (has_serial serial) rows.now }
 {

@@ -8,7 +8,8 @@ ghost use Rattle.quota.specs.AllowanceProofs.{limited_meaning-formed};
 use buffers::MAX_FRAME;
 use suite::{Denial, HasMeaning, Layer, Role, Suite};
 
-/// A suite with an allowance of further keys.
+/// A layer that makes at most a given number of further keys; past them a call that would make one is denied (S3). Destroying a key gives
+/// no allowance back. It cannot be dropped, only taken off by `into_below`, so that the suite below is not lost.
 pub struct Quota<S> {
     below: S,
     // How many keys may still be made.
@@ -16,7 +17,7 @@ pub struct Quota<S> {
 }
 
 impl<S: Suite> Quota<S> {
-    /// Puts a quota of k over a suite.
+    /// Puts a quota of `k` further keys over a suite. The last serial is then the smaller of that below and the newest serial plus `k`.
     pub fn new(below: S, k: u32) -> Quota<S>
         ensures meaning { quota_meaning S.meaning result ≡ with_last (S.meaning below) (min (S.meaning below).last ((S.meaning below).newest + k)) }
         ensures below { result.below ≡ below }
@@ -25,7 +26,7 @@ impl<S: Suite> Quota<S> {
         Quota { below, left: k }
     }
 
-    /// Takes the layer off, and gives back the suite below.
+    /// Takes the layer off, and returns the suite below.
     pub fn into_below(self) -> S
         ensures { result ≡ self.below }
     {
@@ -33,8 +34,7 @@ impl<S: Suite> Quota<S> {
         below
     }
 
-    // Why a used-up allowance makes no shared secret of these. The role is a byte, as in the call, and a link key is denied for other
-    // reasons.
+    // Why a quota whose allowance is used up denies a shared secret: the same denials come first as where a key could be made.
     fn agree_denial(&self, seed: &[u8], offer: &[u8], role: u8) -> Denial
         ensures { Err result ≡ agree_result S.scheme (limited_meaning (S.meaning self.now.below) 0) seed.now offer.now role }
     {
@@ -47,7 +47,7 @@ impl<S: Suite> Quota<S> {
         }
     }
 
-    // Why a used-up allowance makes no link key of that shared secret.
+    // Why such a quota denies a link key.
     fn derive_denial(&self, key: u32) -> Denial
         ensures { Err result ≡ derive_result S.scheme (limited_meaning (S.meaning self.now.below) 0) key }
     {
@@ -59,8 +59,8 @@ impl<S: Suite> Quota<S> {
         }
     }
 
-    // Whether a live shared secret has that serial: then, and only then, there is a check value of it. The scratch bytes, zeros after,
-    // are lent because a contract cannot speak of a local.
+    // Returns whether a live shared secret has that serial: exactly then the suite below writes a check value of it. The scratch bytes are
+    // zeros after. The caller lends them, because a contract cannot speak of a local variable.
     fn is_secret(&self, key: u32, scratch: &mut [u8; MAX_FRAME]) -> bool
         ensures answer { result ≡ is_some (value_in (S.meaning self.now.below).live SharedSecret key) }
         ensures cleared { scratch.new ≡ replicate MAX_FRAME 0 }
@@ -75,7 +75,7 @@ impl<S: HasMeaning> HasMeaning for Quota<S> {
     ghost meaning = { quota_meaning S.meaning };
 }
 
-// Beside what every layer promises: what the suite below means after, and what is left of the allowance.
+// Besides what every layer promises: what the suite below means after the call, and what is left of the allowance.
 impl<S: Suite> Layer for Quota<S> {
     type Below = S;
 
@@ -95,7 +95,7 @@ impl<S: Suite> Layer for Quota<S> {
         newest + unused.min(self.left)
     }
 
-    // One method for both calls that make a key, with the call below as a closure, needs four clauses to save four lines.
+    // Two methods: one for both calls that make a key, with the call below as a closure, would need four clauses to save four lines.
     fn agree_through(&mut self, seed: &[u8], offer: &[u8], role: u8) -> Result<u32, Denial> {
         if self.left == 0 {
             return Err(self.agree_denial(seed, offer, role));

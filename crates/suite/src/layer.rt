@@ -8,41 +8,50 @@ ghost use Rattle.suite.specs.Calls.{agree_result, derive_result, serial_result, 
 use super::suite_trait::{HasMeaning, Suite};
 use super::types::{Denial, KindNumbers};
 
-/// A suite over another. What changes its keys goes through it, and all else is asked of the suite below.
+/// A suite over another. Calls that make or destroy a key go through it; all others are passed to the suite below, by the impl of `Suite`
+/// for every layer. It means what the suite below means, except for the last serial.
 pub trait Layer: HasMeaning {
+    /// The suite below.
     type Below: Suite;
 
-    // What else a layer promises of a making, by the key's value and the answer, and of a destroying.
+    // What else this layer promises of a call that makes a key, by the key's value and what the call returned.
     ghost made: { Self → KeyKind → Result (List ℕ) Denial → Result ℕ Denial → Self → Type 0 };
 
+    // The same of a call that destroys one.
     ghost destroyed: { Self → ℕ → Result (Unit {0}) Denial → Self → Type 0 };
 
-    /// In all but the last serial a layer means what the suite below it means.
+    /// Returns the suite below.
     fn below(&self) -> &Self::Below
         ensures { Self.meaning self.now ≡ with_last (Self.Below.meaning result.now) (Self.meaning self.now).last };
 
+    /// Returns the last serial through this layer, as `Suite::last_serial`.
     fn last_through(&self) -> u32
         ensures { result ≡ (Self.meaning self.now).last };
 
+    /// Makes a shared secret through this layer, as `Suite::agree`: returns its serial. Denied: unfit, S2, S3.
     fn agree_through(&mut self, seed: &[u8], offer: &[u8], role: u8) -> Result<u32, Denial>
         ensures answer { result ≡ serial_result (Self.meaning self.old) (agree_result Self.Below.scheme (Self.meaning self.old) seed.now offer.now role) }
         ensures after { Self.meaning self.new ≡ after_making (Self.meaning self.old) SharedSecret (agree_result Self.Below.scheme (Self.meaning self.old) seed.now offer.now role) }
         ensures made { made self.old SharedSecret (agree_result Self.Below.scheme (Self.meaning self.old) seed.now offer.now role) result self.new };
 
+    /// Makes a link key through this layer, as `Suite::derive`: returns its serial. Denied: unknown, S3.
     fn derive_through(&mut self, key: u32) -> Result<u32, Denial>
         ensures answer { result ≡ serial_result (Self.meaning self.old) (derive_result Self.Below.scheme (Self.meaning self.old) key) }
         ensures after { Self.meaning self.new ≡ after_making (Self.meaning self.old) LinkKey (derive_result Self.Below.scheme (Self.meaning self.old) key) }
         ensures made { made self.old LinkKey (derive_result Self.Below.scheme (Self.meaning self.old) key) result self.new };
 
+    /// Destroys a key through this layer, as `Suite::destroy`. Denied: unknown.
     fn destroy_through(&mut self, key: u32) -> Result<(), Denial>
         ensures answer { result ≡ destroy_result (Self.meaning self.old) key }
         ensures after { Self.meaning self.new ≡ after_destroy (Self.meaning self.old) key }
         ensures destroyed { destroyed self.old key result self.new };
 
+    // What every suite owes at every moment.
     ghost formed: { (x : Self) → IsWellFormed (Self.meaning x) };
 }
 
-// What changes a key repeats the trait's clauses, since clauses here stand in place of those, and says what the layer promises beside.
+// The calls that make or destroy a key repeat the trait's clauses, since clauses here stand in place of those, and add what the layer
+// promises.
 impl<L: Layer> Suite for L {
     ghost scheme = { L.Below.scheme };
 

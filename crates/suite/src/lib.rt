@@ -1,4 +1,4 @@
-// A cipher suite by what it means: the interface that every suite and every layer over one implements.
+// A cipher suite by what it means: the interface of every suite, and of every layer over one.
 #![tactic(auto)]
 
 mod layer;

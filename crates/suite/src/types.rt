@@ -5,15 +5,17 @@ ghost use Rattle.suite.specs.Words.{role_text, kind_text, denial_text};
 use std::error::Error;
 use std::fmt;
 
-/// The Sender sent ACT_REQ, the Recipient received it.
+/// What a peer is in a session, whoever sends records later.
 #[derive(Clone, Copy, Debug, PartialEq, Eq)]
 pub enum Role {
+    /// 01: it sent ACT_REQ.
     Sender = 1,
+    /// 02: it received ACT_REQ.
     Recipient = 2,
 }
 
 impl Role {
-    /// Its number. A method, since `u8::from` would not say which number it is.
+    /// Its byte in check values and payloads, 01 or 02. A method, since `u8::from` would not say which number it is.
     pub fn byte(self) -> u8
         ensures { result ≡ role_byte self }
     {
@@ -21,7 +23,7 @@ impl Role {
     }
 }
 
-// A byte that stands for neither role is unfit.
+// Any byte other than 01 and 02 is unfit.
 impl TryFrom<u8> for Role {
     type Error = Denial;
 
@@ -36,7 +38,7 @@ impl TryFrom<u8> for Role {
     }
 }
 
-// Words by hand, here and below: no derive writes them with a contract.
+// `Display` by hand, here and below: no derive writes it with a contract.
 impl fmt::Display for Role {
     ghost output = { λ role. Some (role_text role) };
 
@@ -48,14 +50,17 @@ impl fmt::Display for Role {
     }
 }
 
+/// What a key is for.
 #[derive(Clone, Copy, Debug, PartialEq, Eq)]
 pub enum KeyKind {
+    /// 1: what two peers agree on (clause 9.1). Check values and the link key are computed from it.
     SharedSecret = 1,
+    /// 2: what protects the records of a secure channel (clause 9.3).
     LinkKey = 2,
 }
 
 impl KeyKind {
-    /// Its number. A method, since `u8::from` would not say which number it is.
+    /// Its number, 1 or 2. A method, since `u8::from` would not say which number it is.
     pub fn number(self) -> u8
         ensures { result ≡ kind_number self }
     {
@@ -74,21 +79,21 @@ impl fmt::Display for KeyKind {
     }
 }
 
-/// Why a suite denies a call.
+/// Why a suite denies a call. A denied call writes nothing and changes nothing. Tried in the order unfit, unknown, S2, S3.
 #[derive(Clone, Copy, Debug, PartialEq, Eq)]
 pub enum Denial {
-    /// S2: the peer's offer is not fit.
+    /// 2, fault S2: the peer's offer is not fit.
     BadOffer = 2,
-    /// S3: two keys are live, or the last serial is used.
+    /// 3, fault S3: two keys are live, or the newest serial is the last.
     Spent = 3,
-    /// An argument or a buffer outside the limits of the interface.
+    /// 8, unfit: an argument or a buffer is outside the limits that the call states.
     Unfit = 8,
-    /// No live key of that kind has that serial.
+    /// 9, unknown: no live key of the kind that the call needs has that serial.
     Unknown = 9,
 }
 
 impl Denial {
-    /// Its number. A method, since `u8::from` would not say which number it is.
+    /// Its number: 2, 3, 8 or 9. A method, since `u8::from` would not say which number it is.
     pub fn number(self) -> u8
         ensures { result ≡ denial_number self }
     {
@@ -111,16 +116,19 @@ impl fmt::Display for Denial {
 
 impl Error for Denial {}
 
-/// What every suite of one kind has in common.
+/// The six numbers that every suite of one kind has in common. Lengths are in bytes.
 #[derive(Clone, Copy, Debug, PartialEq, Eq)]
 pub struct KindNumbers {
-    /// The byte that names the kind in ACT_REQ.
+    /// The PID: the byte that names the kind in ACT_REQ (clause 11.2).
     pub pid: u8,
+    /// The length of an offer, at most 64.
     pub offer_length: usize,
+    /// The length of a check value, at most 32.
     pub check_length: usize,
-    /// How much longer a payload is than its data.
+    /// How much longer a payload is than its data, at most 32.
     pub overhead: usize,
-    /// The numbers of records run from the first, which no record has, to the last.
+    /// The number before the first record of a session; no record that an entity sends has it. It is below the last.
     pub first_number: u32,
+    /// The highest number of a record, at most 16,777,215.
     pub last_number: u32,
 }
