@@ -4,10 +4,12 @@ ghost use Rattle.frame.specs.Details.{part_before_zero, detail as detail_of, End
 
 use super::types::{Body, Message};
 
-/// The detail of an ERROR: a part of the frame, with its place there.
+/// The detail of an ERROR (clause 11.5): the part of its payload before the first 00.
 #[derive(Clone, Copy, Debug, PartialEq, Eq)]
 pub struct Detail<'a> {
+    /// The place in the frame of its first byte, from 0: always 1, right after SEP.
     pub place: usize,
+    /// The part itself, borrowed from the frame; empty where there is none.
     pub bytes: &'a [u8],
 }
 
@@ -17,7 +19,7 @@ fn first_zero(payload: &[u8]) -> Option<usize>
     payload.iter().position(|b| *b == 0)
 }
 
-// The bytes before the first zero, and none where there is no zero.
+// Returns the bytes before the first zero, and no bytes where there is no zero.
 #[tactic(auto, using(crate::proofs::Zeros::before_zero_found))]
 fn before_zero(payload: &[u8]) -> &[u8]
     ensures { result.now ≡ part_before_zero payload.now }
@@ -38,7 +40,7 @@ fn detail_bytes<'a>(body: &Body<'a>) -> &'a [u8]
 }
 
 impl<'a> Message<'a> {
-    /// What an ERROR says before its first 00; empty for any other message.
+    /// Returns the detail of an ERROR. It is empty where the payload has no 00, and for any other message.
     pub fn detail(&self) -> Detail<'a>
         ensures place { result.place ≡ 1 }
         ensures bytes { result.bytes.now ≡ detail_of (contents_of self.now.body) }

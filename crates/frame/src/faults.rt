@@ -6,17 +6,17 @@ ghost use Rattle.frame.specs.declared.faults.ReadError.TheVariants.{Refused, Fau
 use std::error::Error;
 use std::fmt;
 
-/// Why a call is refused.
+/// Why the reader or the writer refuses a frame.
 #[derive(Clone, Copy, Debug, PartialEq, Eq)]
 pub enum Refusal {
-    /// The buffer has fewer than 255 bytes.
+    /// 1: the buffer to be written has fewer than 255 bytes, however short the frame would be.
     ReplyBuffer = 1,
-    /// The frame has no byte or more than 255, or is a TMN with payload.
+    /// 3: the frame has no byte or more than 255; when writing, also a TMN with payload.
     FrameLength = 3,
 }
 
 impl Refusal {
-    /// Its number. A method, since `u8::from` would not say which number it is.
+    /// Its number, 1 or 3. A method, since `u8::from` would not say which number it is.
     pub fn number(self) -> u8
         ensures { result ≡ refusal_number self }
     {
@@ -24,7 +24,7 @@ impl Refusal {
     }
 }
 
-// Words by hand, here and below: what `thiserror` derives has no contract.
+// `Display` by hand, here and below: what `thiserror` derives has no contract.
 impl fmt::Display for Refusal {
     ghost output = { λ refusal. Some (refusal_words refusal) };
 
@@ -38,29 +38,32 @@ impl fmt::Display for Refusal {
 
 impl Error for Refusal {}
 
-/// What is wrong with the form of a frame.
+/// What is wrong with the form of a frame (clause 11). They are tried in this order.
 #[derive(Clone, Copy, Debug, PartialEq, Eq)]
 pub enum CodecFault {
-    /// C1: an RFU bit is ONE.
+    /// C1, at place 0: an RFU bit (8 or 7 of SEP) is ONE.
     RfuBit,
-    /// C2: the service is neither SSE nor SCH.
+    /// C2, at place 0: the service (bits 6 and 5 of SEP) is neither 00 nor 01.
     NoService,
-    /// C3: the message is none that the standard names.
+    /// C3, at place 0: the message code (bits 4 to 1 of SEP) is reserved.
     NoMessage,
-    /// C4: an ACT_REQ without PID, or a TMN with payload.
+    /// C4, at place 1: an ACT_REQ without PID, or a TMN with payload.
     WrongFields,
 }
 
-/// A fault as it is reported: layer letter and cause digit, and the place in the frame.
+/// A fault as it is reported: layer letter, cause digit and the place in the frame.
 /// Letter and digit are bytes in ASCII, since the detail of an ERROR is made of them.
 #[derive(Clone, Copy, Debug, PartialEq, Eq)]
 pub struct FaultCode {
+    /// The letter of the layer, in ASCII: C codec, M machine, S suite, Q sequence of numbers.
     pub letter: u8,
+    /// The digit of the cause, in ASCII: 1 to 5.
     pub digit: u8,
+    /// The place in the frame of the byte that the fault speaks of, from 0.
     pub place: usize,
 }
 
-// The fault's name, as C1; its place is not part of it.
+// Letter and digit, as in C1; the place is not printed.
 impl fmt::Display for FaultCode {
     ghost output = { λ code. Some (code_words code) };
 
@@ -72,7 +75,7 @@ impl fmt::Display for FaultCode {
 }
 
 impl CodecFault {
-    /// Letter, digit and place of the fault, C1 to C4.
+    /// Returns letter, digit and place of the fault, C1 to C4.
     pub fn code(self) -> FaultCode
         ensures { result ≡ fault_code self }
     {
@@ -106,10 +109,12 @@ impl fmt::Display for CodecFault {
 
 impl Error for CodecFault {}
 
-/// Why bytes are not taken as a message.
+/// Why bytes are not read as a message.
 #[derive(Clone, Copy, Debug, PartialEq, Eq)]
 pub enum ReadError {
+    /// Refused, 3: there is no byte, or there are more than 255.
     Refused(Refusal),
+    /// A codec fault, C1 to C4.
     Fault(CodecFault),
 }
 

@@ -1,4 +1,4 @@
-// The frames of NFC-SEC: reader, writer, and the detail of an ERROR.
+// The frames of NFC-SEC (ISO/IEC 13157-1, clause 11): reader, writer, and the detail of an ERROR.
 #![tactic(auto)]
 
 mod detail_reader;

@@ -45,7 +45,8 @@ fn read_fields(sep: u8, rest: &[u8]) -> Result<Message<'_>, ReadError>
     Ok(Message { service, body })
 }
 
-/// Takes a frame apart. The message borrows its payload from the frame.
+/// Reads the message of a frame of 1 to 255 bytes, from which it borrows its payload. `write` makes the same bytes of the message.
+/// Errors, the first that applies: refused 3 (no byte, or more than 255), then the faults C1 to C4.
 pub fn read(frame: &[u8]) -> Result<Message<'_>, ReadError>
     ensures answer { read_as result ≡ reading frame.now }
     ensures again { WritesAgain frame.now (read_as result) }

@@ -7,16 +7,17 @@ ghost use Rattle.frame.specs.Words.{service_words, message_words};
 use super::faults::CodecFault;
 use std::fmt;
 
+/// The service that a session or a frame is of: SVC, the bits 6 and 5 of SEP (clause 11.1, table 3).
 #[derive(Clone, Copy, Debug, PartialEq, Eq)]
 pub enum Service {
-    /// The shared secret service.
+    /// 00: a shared secret for the users.
     Sse = 0,
-    /// The secure channel service.
+    /// 01: a secure channel for records.
     Sch = 1,
 }
 
 impl Service {
-    /// The SVC bits of SEP: a cast under a name of its own, since `u8::from` would not say which number it is.
+    /// Its SVC bits, 0 or 1. A method, since `u8::from` would not say which number it is.
     pub fn code(self) -> u8
         ensures { result ≡ service_code self }
     {
@@ -24,7 +25,7 @@ impl Service {
     }
 }
 
-// Of the SVC bits.
+// By the SVC bits: C2 for every number other than 0 and 1.
 impl TryFrom<u8> for Service {
     type Error = CodecFault;
 
@@ -51,19 +52,27 @@ impl fmt::Display for Service {
     }
 }
 
+/// Which message a frame is: MSG, the bits 4 to 1 of SEP (clause 11.1, table 3). `Body` says what each has after SEP.
 #[derive(Clone, Copy, Debug, PartialEq, Eq)]
 pub enum MessageKind {
+    /// 0, ACT_REQ: activation request.
     ActReq = 0b0000,
+    /// 1, ACT_RES: activation response.
     ActRes = 0b0001,
+    /// 2, VFY_REQ: verification request.
     VfyReq = 0b0010,
+    /// 3, VFY_RES: verification response.
     VfyRes = 0b0011,
+    /// 4, ENC: encrypted packet.
     Enc = 0b0100,
+    /// 6, TMN: terminate (clause 11.4).
     Tmn = 0b0110,
+    /// 15, ERROR (clause 11.5).
     Error = 0b1111,
 }
 
 impl MessageKind {
-    /// The MSG bits of SEP: a cast under a name of its own, since `u8::from` would not say which number it is.
+    /// Its MSG bits, 0 to 15. A method, since `u8::from` would not say which number it is.
     pub fn code(self) -> u8
         ensures { result ≡ message_code self }
     {
@@ -71,7 +80,7 @@ impl MessageKind {
     }
 }
 
-// Of the MSG bits.
+// By the MSG bits: C3 for every number that is the code of no message.
 impl TryFrom<u8> for MessageKind {
     type Error = CodecFault;
 
@@ -108,28 +117,31 @@ impl fmt::Display for MessageKind {
     }
 }
 
-/// What follows SEP. A payload is lent by whoever has the frame.
+/// A message without its service: what follows SEP. The payload is borrowed, from the frame where it was read.
 #[derive(Clone, Copy, Debug, PartialEq, Eq)]
 pub enum Body<'a> {
-    /// PID and payload.
+    /// PID (clause 11.2) and payload.
     ActReq(u8, &'a [u8]),
     ActRes(&'a [u8]),
     VfyReq(&'a [u8]),
     VfyRes(&'a [u8]),
     Enc(&'a [u8]),
-    /// No frame has a payload here; the writer refuses one.
+    /// Always empty in a frame (clause 11.4): the writer refuses any payload (3).
     Tmn(&'a [u8]),
+    /// The payload; its part before the first 00 is the detail (clause 11.5).
     Error(&'a [u8]),
 }
 
+/// A message, as the reader returns it and the writer takes it.
 #[derive(Clone, Copy, Debug, PartialEq, Eq)]
 pub struct Message<'a> {
     pub service: Service,
+    /// Which message it is, with PID and payload.
     pub body: Body<'a>,
 }
 
 impl<'a> Body<'a> {
-    /// Which message it is.
+    /// Returns which message it is.
     pub fn kind(&self) -> MessageKind
         ensures { result ≡ kind_of (contents_of self.now) }
     {
@@ -144,7 +156,7 @@ impl<'a> Body<'a> {
         }
     }
 
-    /// The payload, without the PID.
+    /// Returns the payload, without the PID.
     pub fn payload(&self) -> &'a [u8]
         ensures { result.now ≡ payload_of (contents_of self.now) }
     {

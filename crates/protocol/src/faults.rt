@@ -9,23 +9,23 @@ use frame::{CodecFault, FaultCode};
 use std::error::Error;
 use std::fmt;
 
-/// What is wrong with what a message brings for the suite.
+/// What is wrong with what a message has for the suite. The place of each is 1, right after SEP.
 #[derive(Clone, Copy, Debug, PartialEq, Eq)]
 pub enum SuiteFault {
-    /// S1: the PID is not the suite's.
+    /// S1, of an ACT_REQ: the PID is not the suite's.
     OtherPid,
-    /// S2: the offer is not fit.
+    /// S2, of an ACT_REQ or ACT_RES: the peer's offer is not fit.
     BadOffer,
-    /// S3: the suite makes no further key.
+    /// S3, where a key would be made: the suite makes no further key.
     NoKey,
-    /// S4: the check value is another.
+    /// S4, of a VFY_REQ or VFY_RES: the peer's check value is wrong (clause 9.2).
     WrongCheck,
-    /// S5: the record is not good, is one's own, or its data has no byte or more than 200.
+    /// S5, of an ENC: the record is not good, is of the entity's own role, or its data has no byte or more than 200 (clause 9.3).
     BadRecord,
 }
 
 impl SuiteFault {
-    /// Letter, digit and place of the fault, S1 to S5.
+    /// Returns letter, digit and place of the fault, S1 to S5.
     pub fn code(self) -> FaultCode
         ensures { result ≡ suite_code self }
     {
@@ -60,21 +60,23 @@ impl fmt::Display for SuiteFault {
 
 impl Error for SuiteFault {}
 
-/// What is wrong with a frame, by layer.
+/// What is wrong with a frame, by layer (clause 12.1).
 #[derive(Clone, Copy, Debug, PartialEq, Eq)]
 pub enum Cause {
+    /// C1 to C4: the form of the frame is wrong.
     Codec(CodecFault),
     /// M1: the message is not allowed in this state.
     NotAllowed,
     /// M2: the message is of another service than the session.
     OtherService,
+    /// S1 to S5: what the message has for the suite is wrong.
     Suite(SuiteFault),
-    /// Q1: the number is not the next, or above the last.
+    /// Q1: the number of a record is not the next, or is above the last (clause 12.3).
     WrongNumber,
 }
 
 impl Cause {
-    /// Letter, digit and place of the cause.
+    /// Returns letter, digit and place of the cause.
     pub fn code(self) -> FaultCode
         ensures { result ≡ cause_code self }
     {
@@ -130,22 +132,23 @@ impl From<SuiteFault> for Cause {
     }
 }
 
-/// The machine's fault: the cause whole, and the state that it was met in.
+/// The machine's fault: a cause, and the state that it was met in.
 #[derive(Clone, Copy, Debug, PartialEq, Eq)]
 pub struct MachineFault {
     pub cause: Cause,
     pub state: State,
 }
 
-/// The entity's fault: the machine's whole, and the code of the message at which it was met.
+/// The entity's fault, as an outcome reports it: the machine's, and the message at which it was met.
 #[derive(Clone, Copy, Debug, PartialEq, Eq)]
 pub struct Fault {
     pub machine: MachineFault,
+    /// The low four bits of the frame's first byte, even where these are the code of no message.
     pub message: u8,
 }
 
 impl Fault {
-    /// Letter, digit and place of its cause.
+    /// Returns letter, digit and place of its cause.
     pub fn code(self) -> FaultCode
         ensures { result ≡ cause_code self.machine.cause }
     {
@@ -153,7 +156,7 @@ impl Fault {
     }
 }
 
-// The cause, in words.
+// The words of the cause alone.
 impl fmt::Display for Fault {
     ghost output = { λ fault. Some (cause_words fault.machine.cause) };
 
@@ -164,9 +167,10 @@ impl fmt::Display for Fault {
 
 impl Error for Fault {}
 
-/// A fault on its way up, with the state that it was met in.
+/// The fault of a lower layer on its way up, with the state that it was met in. `?` makes a `MachineFault` of it.
 #[derive(Drop)]
 pub struct FaultInState<E> {
+    /// The fault: of the codec, of the suite, or a cause already.
     pub fault: E,
     pub state: State,
 }
@@ -186,10 +190,11 @@ where
     }
 }
 
-/// A fault on its way up, with the code of the message at which it was met.
+/// The machine's fault on its way up, with the message at which it was met. `?` makes a `Fault` of it.
 #[derive(Drop)]
 pub struct FaultAtMessage<E> {
     pub fault: E,
+    /// The low four bits of the frame's first byte.
     pub message: u8,
 }
 
@@ -204,14 +209,14 @@ impl From<FaultAtMessage<MachineFault>> for Fault {
     }
 }
 
-/// A result whose error tells the state.
+/// Returns a result with the state added to its error.
 pub fn in_state<T, E>(state: State, outcome: Result<T, E>) -> Result<T, FaultInState<E>>
     ensures { result ≡ result_in_state state outcome }
 {
     outcome.map_err(|fault| FaultInState { fault, state })
 }
 
-/// A result whose error tells the message.
+/// Returns a result with the message added to its error: the low four bits of the frame's first byte.
 pub fn at_message<T, E>(message: u8, outcome: Result<T, E>) -> Result<T, FaultAtMessage<E>>
     ensures { result ≡ result_at_message message outcome }
 {

@@ -1,5 +1,5 @@
-// The protocol as far as it is the same for every suite: states, confirmations, refusals, faults and outcomes. What each call of an entity does
-// is defined in specs/, over what its suite means.
+// The protocol as far as it is the same for every suite: states, confirmations, refusals, faults and outcomes. What each call of an entity
+// does is defined in specs/, over what its suite means.
 #![tactic(auto)]
 
 mod faults;

@@ -6,22 +6,27 @@ ghost use Rattle.protocol.specs.Words.{confirmation_words, destroyed_words};
 use super::faults::Fault;
 use std::fmt;
 
-/// What a call tells the user, after annex A.3 of the standard.
+/// What a call reports to the user, after ISO/IEC 13157-1, annex A.3.
 #[derive(Clone, Copy, Debug, PartialEq, Eq)]
 pub enum Confirmation {
-    /// No step names one.
+    /// 0: nothing to report.
     Nothing = 0,
+    /// 1: both peers are verified, and the service is in effect.
     Established = 1,
+    /// 2: a record is sealed and is to be sent.
     DataSent = 2,
+    /// 3: a record was received; its data can be retrieved.
     DataAvailable = 3,
+    /// 4: the session ended by either user, or by the release of the link below.
     Terminated = 4,
+    /// 5: the session ended by a fault, or by an ERROR from the peer.
     Error = 5,
-    /// The record is the newest one again: it is not shown to the user.
+    /// 6: a record came that has the number of the newest one. It is not shown to the user, and alters nothing (clause 12.3).
     Dropped = 6,
 }
 
 impl Confirmation {
-    /// Its number. A method, since `u8::from` would not say which number it is.
+    /// Its number, 0 to 6. A method, since `u8::from` would not say which number it is.
     pub fn number(self) -> u8
         ensures { result ≡ confirmation_number self }
     {
@@ -45,15 +50,17 @@ impl fmt::Display for Confirmation {
     }
 }
 
-/// The serials of the keys destroyed by a call, the link key first; 0 for none.
+/// The serials of the keys that a call destroyed, each 0 for none.
 #[derive(Clone, Copy, Debug, PartialEq, Eq)]
 pub struct Destroyed {
+    /// Of the link key.
     pub link: u32,
+    /// Of the shared secret.
     pub secret: u32,
 }
 
 impl Destroyed {
-    /// No key destroyed.
+    /// No key destroyed: both serials are 0.
     pub fn nothing() -> Destroyed
         ensures { result ≡ no_keys }
     {
@@ -70,20 +77,21 @@ impl fmt::Display for Destroyed {
     }
 }
 
-/// What a call that is not refused answers.
+/// What a call returns that is not refused.
 #[derive(Clone, Copy, Debug, PartialEq, Eq)]
 pub struct Outcome {
     pub confirmation: Confirmation,
-    /// How many bytes are written to the front of the buffer.
+    /// How many bytes were written to the front of the buffer, at most 255; 0 for none.
     pub length: usize,
-    /// The serial of the key made, or 0.
+    /// The serial of the key that the call made, or 0.
     pub made: u32,
     pub destroyed: Destroyed,
+    /// What was wrong with the peer's frame, or `None`. With a fault the confirmation is 5.
     pub fault: Option<Fault>,
 }
 
 impl Outcome {
-    /// The outcome of a step that meets no fault and destroys no key.
+    /// The outcome of a call that meets no fault and destroys no key.
     pub fn ongoing(confirmation: Confirmation, length: usize, made: u32) -> Outcome
         ensures { result ≡ ongoing_outcome confirmation length made }
     {

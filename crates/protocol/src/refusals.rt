@@ -5,33 +5,33 @@ ghost use Rattle.protocol.specs.Words.{refusal_words};
 use std::error::Error;
 use std::fmt;
 
-/// Why a call is refused. A refused call changes nothing.
+/// Why a call of an entity is refused. A refused call alters nothing: not the entity, not its suite, not the buffer.
 #[derive(Clone, Copy, Debug, PartialEq, Eq)]
 pub enum Refusal {
-    /// The reply buffer has fewer than 255 bytes.
+    /// 1: the reply buffer has fewer than 255 bytes, however short the reply would be.
     ReplyBuffer = 1,
-    /// The seed has not sixteen bytes.
+    /// 2: the seed does not have 16 bytes.
     SeedLength = 2,
-    /// The frame has no byte or more than 255.
+    /// 3: the frame has no byte, or more than 255.
     FrameLength = 3,
-    /// A record came while the data of the one before it is still held.
+    /// 4: a record came while the data of the one before it is still held.
     DataHeld = 4,
-    /// The request is not allowed in this state.
+    /// 5: the request is not allowed in this state.
     WrongState = 5,
-    /// The PID is not the suite's.
+    /// 6: the PID is not the suite's.
     OtherPid = 6,
-    /// The data to be sent has no byte or more than 200.
+    /// 7: the data to be sent has no byte, or more than 200.
     DataLength = 7,
-    /// The number is the last.
+    /// 8: the number is the suite's last, so no further record can be sent in this session.
     NumberSpent = 8,
-    /// No data is held.
+    /// 9: no data is held.
     NothingHeld = 9,
-    /// The buffer is shorter than what is to be retrieved.
+    /// 10: the buffer is shorter than what is to be retrieved.
     SmallBuffer = 10,
 }
 
 impl Refusal {
-    /// Its number. A method, since `u8::from` would not say which number it is.
+    /// Its number, 1 to 10. A method, since `u8::from` would not say which number it is.
     pub fn number(self) -> u8
         ensures { result ≡ refusal_number self }
     {
@@ -60,7 +60,7 @@ impl fmt::Display for Refusal {
 
 impl Error for Refusal {}
 
-// The numbers of the two are those of one table.
+// Both enums number their refusals by one table, so the number stays.
 impl From<frame::Refusal> for Refusal {
     ghost from_gives = { λ x r. r ≡ frame_refusal x };
 

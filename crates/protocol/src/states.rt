@@ -4,25 +4,25 @@ ghost use Rattle.protocol.specs.Words.{state_words};
 
 use std::fmt;
 
-/// States and substates, after table 1 of the standard.
+/// The state of an entity, by the states and substates of ISO/IEC 13157-1 (clause 10, table 1).
 #[derive(Clone, Copy, Debug, PartialEq, Eq)]
 pub enum State {
-    /// Ready for a new service.
+    /// 0: no session runs; it waits for a request or the peer's ACT_REQ.
     Idle = 0,
-    /// Waits for ACT_RES.
+    /// 1: the entity is the Sender, and waits for ACT_RES.
     Select = 1,
-    /// Waits for VFY_RES.
+    /// 2: the Sender waits for VFY_RES.
     EstablishedSender = 2,
-    /// Waits for VFY_REQ.
+    /// 3: the entity is the Recipient, and waits for VFY_REQ.
     EstablishedRecipient = 3,
-    /// The shared secret can be retrieved.
+    /// 4: the shared secret can be retrieved.
     ConfirmedSse = 4,
-    /// Records can be sent and received.
+    /// 5: records can be sent and received: a link session runs.
     ConfirmedSch = 5,
 }
 
 impl State {
-    /// Its number. A method, since `u8::from` would not say which number it is.
+    /// Its number, 0 to 5. A method, since `u8::from` would not say which number it is.
     pub fn mark(self) -> u8
         ensures { result ≡ state_mark self }
     {
@@ -30,7 +30,7 @@ impl State {
     }
 }
 
-// The standard's name.
+// By the standard's name.
 impl fmt::Display for State {
     ghost output = { λ state. Some (state_words state) };
 

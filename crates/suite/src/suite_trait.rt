@@ -17,8 +17,8 @@ pub trait HasMeaning {
 /// A cipher suite: all that an entity calls for keys. What a call returns, writes and leaves follows from the suite's meaning and the
 /// arguments alone.
 ///
-/// A key is named by its serial. A role is a byte, and every byte other than 01 and 02 is unfit. What a call writes is put into the front of
-/// `out`, whose other bytes stay as they were. A denied call writes nothing and changes nothing.
+/// A key is named by its serial. A role is a byte, and every byte other than 01 and 02 is unfit. What a call writes is put into the front
+/// of `out`, whose other bytes stay as they were. A denied call writes nothing and changes nothing.
 pub trait Suite: HasMeaning {
     // What this kind of suite computes.
     ghost scheme: { Scheme };
