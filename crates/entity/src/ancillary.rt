@@ -7,21 +7,22 @@ ghost use Rattle.entity.specs.CallViews.{ancillary_of, fitted_ancillary};
 use crate::bytes::sixteen;
 use protocol::Refusal;
 
-/// What a call with a frame brings beside it.
+/// What is passed to an entity beside a frame.
 #[derive(Clone, Copy)]
 pub struct Ancillary<'a> {
-    /// The seed for an agreement, 16 bytes, of which only an ACT_REQ makes use: a new one for each call.
+    /// The seed that is used if the frame is an ACT_REQ that is agreed on. It must have 16 bytes with every frame (refusal 2). It has to be
+    /// random and new for each call, for which the caller is responsible.
     pub seed: &'a [u8],
 }
 
-// The same, once it is known to fit.
+// The same with its length checked.
 #[derive(Clone, Copy)]
 pub(crate) struct Fitted<'a> {
     pub(crate) seed: &'a [u8; 16],
 }
 
 impl<'a> Ancillary<'a> {
-    // What is brought, if it fits.
+    // Checks the length.
     pub(crate) fn fit(self) -> Result<Fitted<'a>, Refusal>
         ensures { result_map_both fitted_ancillary (λ e. e) result ≡ cond (is_wrong_seed self.entry.seed.now) (Err SeedLength) (Ok (ancillary_of self.entry)) }
     {

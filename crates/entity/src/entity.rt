@@ -18,15 +18,15 @@ mod requests;
 mod suite_calls;
 mod verification;
 
-/// One end of an NFC-SEC link, over a suite: the machine of ISO/IEC 13157-1, annex A. It can be neither copied nor dropped, only put away,
-/// so that no live key is lost sight of.
+/// One peer of an NFC-SEC link, over a suite: the machine of ISO/IEC 13157-1, annex A. It can be neither copied nor dropped, only put away,
+/// so that no live key is lost.
 pub struct Entity<S: HasMeaning> {
     suite: S,
     state: State,
-    // The session's; in Idle, that of the last session.
+    // Of the session; in Idle, of the last session.
     service: Service,
     role: Role,
-    // Kept from the invocation on; zeros in Idle.
+    // Kept from `invoke` on; zeros in Idle.
     seed: [u8; 16],
     // The number of the newest record of the session; 0 in Idle.
     number: u32,
@@ -42,9 +42,9 @@ pub struct Entity<S: HasMeaning> {
 impl<S: Suite> Entity<S> {
     ghost use Rattle.entity.specs.Views.{view};
 
-    /// A new entity, in Idle. The activation is used up: another entity needs another exchange of activation bytes. Whatever it is then
-    /// called with, each call is refused and alters nothing, or is answered; a fault is answered by an ERROR frame that tells it, and then no
-    /// key of the session is live.
+    /// A new entity, in Idle. The activation is used up: another entity needs another exchange of activation bytes. Whatever the entity is
+    /// called with, each call is either refused, which alters nothing, or returns an outcome; a fault is answered by an ERROR frame that
+    /// says which it is, and then no key of the session is live.
     pub fn new(_activation: Agreed, suite: S) -> Entity<S>
         ensures model { view S.meaning result ≡ new_model (S.meaning suite) }
         ensures ends { EveryCallEnds S.scheme }
@@ -62,7 +62,7 @@ impl<S: Suite> Entity<S> {
         }
     }
 
-    /// Enters Idle, and returns the suite and the serials of the two keys destroyed, each 0 for none.
+    /// Ends the entity: enters Idle, and returns the suite and the serials of the two keys destroyed, each 0 for none.
     pub fn put_away(mut self) -> (S, Destroyed)
         ensures suite { S.meaning result.0 ≡ (idle_model (view S.meaning self)).means }
         ensures destroyed { result.1 ≡ session_keys (view S.meaning self) }
@@ -82,15 +82,15 @@ impl<S: Suite> Entity<S> {
         (suite, destroyed)
     }
 
-    /// The state, by table 1 of ISO/IEC 13157-1.
+    /// Returns the state (clause 10, table 1).
     pub fn state(&self) -> State
         ensures { result ≡ (view S.meaning self.now).state }
     {
         self.state
     }
 
-    /// The number of the newest record of the link session, sent or taken in, and the suite's first number before any; 0 where no link
-    /// session runs.
+    /// Returns the number of the newest record of the link session, sent or received, and the suite's first number before any; 0 where no
+    /// link session runs (clause 12.3).
     pub fn number(&self) -> u32
         ensures { result ≡ (view S.meaning self.now).number }
     {

@@ -5,7 +5,8 @@ use buffers::write_front;
 use std::marker::Model;
 use suite::MAX_DATA;
 
-/// Data that waits for its user. Past the data the place has zeros, so a place without data is all zeros.
+/// The data of a received record until it is retrieved, at most 200 bytes. Past the data the place has zeros, so a place without data is
+/// all zeros.
 #[derive(Drop)]
 pub struct Held {
     place: [u8; MAX_DATA],

@@ -1,4 +1,4 @@
-// The NFC-SEC entity over any suite: one machine for all of them.
+// The NFC-SEC entity over any suite: one machine, proved once for all of them.
 #![tactic(auto)]
 
 mod ancillary;

@@ -1,7 +1,7 @@
 ghost use Rattle.std.specs.Prelude.{◌≡◌, length, replicate};
 
-/// Owed for a secret that is retrieved: whoever takes one out has to hand it in with the buffer, which is then all zeros. It can be
-/// neither copied nor let go, and touches neither entity nor suite.
+/// What a retrieval of the shared secret requires. It can be neither copied nor dropped, so whoever takes one out has to hand it in with a
+/// buffer, which is then all zeros. It does not know into which buffer the secret went, and touches neither entity nor suite.
 pub struct Slip {
     owed: (),
 }
@@ -12,7 +12,7 @@ impl Slip {
         Slip { owed: () }
     }
 
-    /// Hands the slip in with the buffer into which the secret was written.
+    /// Hands the slip in, with the buffer into which the secret was written: each byte of it becomes zero.
     pub fn hand_in(self, buffer: &mut [u8])
         ensures { buffer.new ≡ replicate (length buffer.old) 0 }
     {

@@ -11,10 +11,12 @@ use protocol::Refusal;
 use std::alloc::{AllocError, Global};
 use suite::Suite;
 
-/// What two logs came to: an entry for each call.
+/// What the calls of two logs returned and wrote: an entry for each call, in the order of its log.
 #[derive(Drop)]
 pub struct Transcripts {
+    /// Of the first log.
     pub one: Vec<Entry>,
+    /// Of the second log.
     pub other: Vec<Entry>,
 }
 
@@ -30,8 +32,8 @@ fn places(alloc: Global, log: &[Logged<'_>]) -> Result<Vec<Entry>, AllocError>
     vec![in alloc; blank; log.len()]
 }
 
-/// Makes the calls of two logs again, each to its entity, and tells what they answered and wrote, and the records that each user sent
-/// and was handed, session by session. Memory is got first: where there is none, no call is made.
+/// Makes the calls of two logs again, each log on its entity, and returns what they returned and wrote, with the records that each user
+/// sent and was handed, session by session. Memory is allocated first: on an error no call was made, and both entities are as they were.
 #[tactic(auto, using(crate::proofs::Turns::written_back))]
 pub fn replay<S: Suite, T: Suite>(
     alloc: Global,

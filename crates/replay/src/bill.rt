@@ -3,6 +3,7 @@ ghost use Rattle.replay.specs.Entries.{handed_count, is_hand_over};
 
 use super::entry::{Direction, Entry, SessionRecord};
 
+// Returns whether the entry has a record that the user was handed.
 fn hands_over(entry: &Entry) -> bool
     ensures { result ≡ is_hand_over entry.now.record }
 {
@@ -15,7 +16,8 @@ fn hands_over(entry: &Entry) -> bool
     )
 }
 
-/// How many records the entries tell as handed, of all sessions together: what is billed where a user pays for what was handed.
+/// Returns how many records the user was handed according to these entries, in all sessions together: the number to be charged where each
+/// record handed over is paid for.
 pub fn handed_count(entries: &[Entry]) -> usize
     ensures { result ≡ handed_count entries.now }
 {

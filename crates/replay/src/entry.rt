@@ -44,17 +44,18 @@ impl Written {
 /// Which way the data of a record went.
 #[derive(Clone, Copy, Debug, PartialEq, Eq)]
 pub enum Direction {
-    /// The user of the end sent it.
+    /// The user of this peer sent it.
     Sent,
-    /// The user of the end was handed it.
+    /// The user of this peer was handed it.
     Handed,
 }
 
-/// A record that the user of an end sent or was handed in one of its link sessions.
+/// A record that the user of a peer sent, or was handed, in one of its link sessions.
 #[derive(Clone, Copy)]
 pub struct SessionRecord {
-    /// The serial of the session's link key at that end; 0 where the log begins in mid-session.
+    /// The serial of the session's link key at this peer; 0 where the log begins in mid-session.
     pub session: u32,
+    /// Whether it was sent or handed over.
     pub direction: Direction,
     /// The record's data, 1 to 200 bytes.
     pub plain: Written,

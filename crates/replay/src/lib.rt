@@ -1,4 +1,4 @@
-// Calls of two entities made again from their logs, and what every run of calls promises.
+// The calls of two entities made again from their logs, with what every run of calls promises.
 #![tactic(auto)]
 
 mod again;

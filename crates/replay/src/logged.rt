@@ -4,15 +4,17 @@ ghost use Rattle.replay.specs.LogViews.{logged_call};
 
 use entity::Call;
 
-/// A call as a log has it: what it was given, and how many bytes the buffer had that was lent beside.
+/// A call as a log has it.
 #[derive(Clone, Copy)]
 pub struct Logged<'a> {
+    /// The call, with what it was given.
     pub call: Call<'a>,
+    /// How many bytes the buffer had that was passed with it. It may be any number.
     pub room: usize,
 }
 
 impl Logged<'_> {
-    // Does nothing. Its contract says, for a proof, that what a call was given are bytes.
+    // Does nothing: its contract tells a proof that each number that a call was given is a byte.
     pub(crate) fn given(&self)
         ensures { IsGivenBytes (logged_call self.now) }
     {
@@ -28,7 +30,7 @@ impl Logged<'_> {
     }
 }
 
-// Nor does this: each element of a slice of bytes is one.
+// Does nothing either: each element of a slice of bytes is a byte.
 fn are_bytes(slice: &[u8])
     ensures { IsBytes slice.now }
 {}

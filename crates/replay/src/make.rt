@@ -12,7 +12,7 @@ use entity::{Entity, Slip};
 use protocol::{Outcome, Refusal};
 use suite::Suite;
 
-// The bytes that a call wrote, by the length that it answered.
+// Returns the bytes that a call wrote, by the length that it returned; no bytes if it was refused.
 fn written(answer: Result<Outcome, Refusal>, buffer: &[u8]) -> Written
     requires within { IfOk answer (λ o. o.length ≤ length buffer.now) }
     requires short { IfOk answer (λ o. o.length ≤ MAX_FRAME) }
@@ -24,7 +24,7 @@ fn written(answer: Result<Outcome, Refusal>, buffer: &[u8]) -> Written
     }
 }
 
-// Makes a call in the front of a longer buffer, which is zeros again after: secrets and data lie in it.
+// Makes a call with the first bytes of a longer buffer, and clears them afterwards, since a secret or data may lie in them.
 pub(crate) fn make<S: Suite>(
     entity: &mut Entity<S>,
     logged: &Logged<'_>,

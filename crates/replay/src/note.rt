@@ -8,7 +8,7 @@ use super::logged::Logged;
 use entity::Call;
 use protocol::{Confirmation, Outcome, Refusal};
 
-// The session that runs after a call, by what it answered: 0 for none.
+// Returns the link session that runs after a call, by its key's serial: 0 for none.
 pub(crate) fn next_session(session: u32, answer: Result<Outcome, Refusal>) -> u32
     ensures { result ≡ next_session session answer }
 {
@@ -24,7 +24,7 @@ pub(crate) fn next_session(session: u32, answer: Result<Outcome, Refusal>) -> u3
     session
 }
 
-// The record that a call sent or handed out.
+// Returns the record that a call sent or handed over, if it did.
 fn record(
     session: u32,
     logged: &Logged<'_>,
@@ -49,7 +49,7 @@ fn record(
     })
 }
 
-// What is noted of a call.
+// Returns the entry of a call that was made in that session.
 pub(crate) fn note(
     session: u32,
     logged: &Logged<'_>,

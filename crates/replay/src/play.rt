@@ -10,7 +10,7 @@ use super::note::{next_session, note};
 use entity::Entity;
 use suite::Suite;
 
-// The longest buffer that a log's calls take.
+// Returns the length of the longest buffer that a call of the log had.
 pub(crate) fn longest(log: &[Logged<'_>]) -> usize
     ensures { All (λ x. x.room ≤ result) log.now }
 {
@@ -21,7 +21,7 @@ pub(crate) fn longest(log: &[Logged<'_>]) -> usize
     most
 }
 
-// Makes the calls of a log in turn, and notes each.
+// Makes the calls of a log in turn, and writes the entry of each to its place in `entries`.
 pub(crate) fn play<S: Suite>(
     entity: &mut Entity<S>,
     log: &[Logged<'_>],

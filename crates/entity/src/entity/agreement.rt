@@ -11,7 +11,7 @@ use protocol::{Confirmation, MachineFault, Outcome, State, SuiteFault, in_state}
 use suite::{Role, Suite};
 
 impl<S: Suite> Entity<S> {
-    // Idle: the peer asks for a service. The Recipient agrees, and answers by its offer.
+    // ACT_REQ in Idle: the peer asks for a service. The entity becomes the Recipient, makes the shared secret, and replies with its offer.
     pub(super) fn on_act_req(
         &mut self,
         service: Service,
@@ -40,7 +40,7 @@ impl<S: Suite> Entity<S> {
         Ok(Outcome::ongoing(Confirmation::Nothing, length, made))
     }
 
-    // Select: the peer takes part. The Sender agrees, and asks for verification by its check value.
+    // ACT_RES in Select: the peer takes part. The Sender makes the shared secret, and replies with its check value.
     pub(super) fn on_act_res(
         &mut self,
         offer: &[u8],

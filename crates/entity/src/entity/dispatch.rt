@@ -10,9 +10,10 @@ use protocol::{Outcome, Refusal};
 use suite::Suite;
 
 impl<S: Suite> Entity<S> {
-    /// Makes a call as a log has it, with a buffer that it may write. The slip is shown where the call retrieves the secret.
+    /// Makes a call as a log has it, with a buffer that it may write, and returns what the method of that call returns. Only the call that
+    /// retrieves the shared secret makes use of the slip.
     ///
-    /// Refused as the call itself is.
+    /// Refused as that method is.
     pub fn call(
         &mut self,
         call: &Call<'_>,

@@ -12,6 +12,7 @@ use frame::{Body, Service};
 use protocol::{Confirmation, Destroyed, Fault, Outcome, State};
 use suite::Suite;
 
+// The service of an ERROR: that of the session; in Idle that of the frame, SSE where its service bits name none.
 fn error_service(service: Service, sep: u8, state: State) -> Service
     ensures { result ≡ error_service service sep state }
 {
@@ -22,7 +23,7 @@ fn error_service(service: Service, sep: u8, state: State) -> Service
     }
 }
 
-// Destroys the key of that serial, if it is a key's.
+// Destroys the key of that serial; no key has serial 0.
 fn destroy<S: Suite>(suite: &mut S, key: u32)
     ensures { S.meaning suite.new ≡ without_key (S.meaning suite.old) key }
 {
@@ -32,7 +33,7 @@ fn destroy<S: Suite>(suite: &mut S, key: u32)
 }
 
 impl<S: Suite> Entity<S> {
-    // The keys go, the link key first, and all that was kept is zeros.
+    // Destroys the keys, the link key first, and sets all that was kept to zeros (clause 9.4).
     pub(super) fn enter_idle(&mut self) -> Destroyed
         ensures model { view S.meaning self.new ≡ idle_model (view S.meaning self.old) }
         ensures destroyed { result ≡ session_keys (view S.meaning self.old) }
@@ -52,7 +53,7 @@ impl<S: Suite> Entity<S> {
         destroyed
     }
 
-    // Ends the session, with a reply of that length.
+    // Ends the session, after a reply of that length was written.
     pub(super) fn end(
         &mut self,
         confirmation: Confirmation,
@@ -71,7 +72,7 @@ impl<S: Suite> Entity<S> {
         }
     }
 
-    // Answers a fault by an ERROR, and ends the session.
+    // Answers a fault by an ERROR with letter, digit and 00 (clause 12.1), and ends the session.
     pub(super) fn fail(&mut self, sep: u8, fault: Fault, reply: &mut [u8]) -> Outcome
         requires room { MAX_FRAME ≤ length reply.old }
         requires message { fault.message ≡ sep % 16 }

@@ -17,7 +17,7 @@ use protocol::{Fault, Outcome, Refusal, State, at_message};
 use suite::Suite;
 
 impl<S: Suite> Entity<S> {
-    // A record cannot be taken while the data of the one before it is held.
+    // Returns whether a message is a record of the session while the data of the one before is held. It is refused: there is one place.
     fn blocks(&self, message: &Message<'_>) -> bool
         ensures { result ≡ is_blocked (view S.meaning self.now) (parts_of message.now) }
     {
@@ -28,7 +28,7 @@ impl<S: Suite> Entity<S> {
             && !self.held.is_empty()
     }
 
-    // What is heard of a frame, or why it is refused.
+    // Reads a frame: returns its message or codec fault, or why it is refused.
     fn admit<'a>(&self, frame: &'a [u8]) -> Result<Result<Message<'a>, CodecFault>, Refusal>
         ensures heard { result_map_both reading_parts (λ e. e) result ≡ admission (view S.meaning self.now) (reading frame.now) }
         ensures short { IfOk result (λ h. IfOk h (λ m. length (bytes_after_sep (parts_of m).contents) ≤ MAX_PAYLOAD)) }
@@ -41,7 +41,7 @@ impl<S: Suite> Entity<S> {
         }
     }
 
-    // The machine's fault becomes the entity's, with the code of the message.
+    // Makes the step of a frame. The machine's fault becomes the entity's, with the code of the message.
     fn hear(
         &mut self,
         sep: u8,
@@ -57,10 +57,11 @@ impl<S: Suite> Entity<S> {
         Ok(at_message(sep % 16, self.step(heard, beside, reply))?)
     }
 
-    /// A frame from the peer, 1 to 255 bytes, with what is brought beside it. The reply, if there is one, is to be sent; its buffer takes at
-    /// least 255 bytes. A fault of the frame is answered by an ERROR and ends the session (confirmation 5).
+    /// Takes a frame from the peer, 1 to 255 bytes, with the seed brought beside it (clauses 11 and 12). If the length of the outcome is
+    /// not 0, the reply is to be sent. A fault of the frame is answered by an ERROR and ends the session (confirmation 5).
     ///
-    /// Refused: 1 (reply buffer), 2 (seed not of 16 bytes), 3 (length of the frame), 4 (a record while data is held).
+    /// Refused: 1 (reply buffer below 255 bytes), 2 (seed not of 16 bytes), 3 (a frame of no byte, or more than 255), 4 (a record while
+    /// data is held).
     pub fn frame(
         &mut self,
         frame: &[u8],

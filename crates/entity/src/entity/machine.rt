@@ -13,7 +13,7 @@ use protocol::{Cause, Confirmation, FaultInState, MachineFault, Outcome, State, 
 use suite::Suite;
 
 impl<S: Suite> Entity<S> {
-    // The fault of a cause that is met now.
+    // Returns the fault of a cause that is met in the present state.
     pub(super) fn fault(&self, cause: Cause) -> MachineFault
         ensures { result ≡ record { cause = cause; state = self.now.state } }
     {
@@ -24,7 +24,7 @@ impl<S: Suite> Entity<S> {
         .into()
     }
 
-    // Whether a message is of the session's service.
+    // M2 for a message of another service than the session's.
     fn in_session(&self, service: Service) -> Result<(), MachineFault>
         ensures { result ≡ session_result (view S.meaning self.now) service }
     {
@@ -34,7 +34,7 @@ impl<S: Suite> Entity<S> {
         Ok(())
     }
 
-    // The state and the message together decide the step.
+    // The state and the message together decide the step (annex A). An ERROR ends the session in every state.
     pub(super) fn step(
         &mut self,
         heard: Result<Message<'_>, CodecFault>,

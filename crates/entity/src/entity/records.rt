@@ -10,7 +10,7 @@ use buffers::{MAX_FRAME, MAX_PAYLOAD};
 use protocol::{Cause, Confirmation, MachineFault, Outcome, SuiteFault, in_state};
 use suite::{MAX_DATA, Suite};
 
-// How many bytes the data of a record has.
+// Returns whether the data of a record may have that many bytes: 1 to 200.
 pub(super) fn is_record_length(length: usize) -> bool
     ensures { result ≡ is_record_length length }
 {
@@ -18,7 +18,8 @@ pub(super) fn is_record_length(length: usize) -> bool
 }
 
 impl<S: Suite> Entity<S> {
-    // The sequence check of role, number and data length: whether the record is a new one.
+    // The sequence check (clause 12.3) of an opened record. Returns true for the next one, and false for one with the number of the newest,
+    // which is dropped; S5 or Q1 for any other.
     fn is_next(&self, opened: (u8, u32, usize)) -> Result<bool, Cause>
         ensures { result ≡ sequence_check S.scheme (view S.meaning self.now) opened }
     {
@@ -38,7 +39,7 @@ impl<S: Suite> Entity<S> {
         Ok(true)
     }
 
-    // Opens a record in the lent bytes, and keeps its data if it is a new one.
+    // Opens a record into the scratch bytes, and keeps its data if it is the next one.
     fn enter(
         &mut self,
         payload: &[u8],
@@ -58,7 +59,7 @@ impl<S: Suite> Entity<S> {
         Ok(Outcome::ongoing(Confirmation::DataAvailable, 0, 0))
     }
 
-    // The lent bytes are zeros after, since data lay in them: they are lent because a contract cannot speak of a local.
+    // Clears the scratch bytes after, since data lay in them. The caller lends them, because a contract cannot speak of a local variable.
     fn enter_cleanly(
         &mut self,
         payload: &[u8],
@@ -74,7 +75,7 @@ impl<S: Suite> Entity<S> {
         entered
     }
 
-    // Confirmed_SCH: a record. It is never answered by a frame, but by an ERROR.
+    // ENC in Confirmed_SCH: a record. Without a fault there is no reply.
     pub(super) fn on_enc(&mut self, payload: &[u8]) -> Result<Outcome, MachineFault>
         requires state { has_link self.old.state ≡ true }
         requires payload { length payload.now ≤ MAX_PAYLOAD }

@@ -12,9 +12,10 @@ use frame::{Body, Service};
 use protocol::{Confirmation, Outcome, Refusal, State};
 use suite::{Role, Suite};
 
-// The state and the request together decide each step.
+// Each request decides by the state, and is refused (5) in a state that does not allow it; `release` is allowed in all.
 impl<S: Suite> Entity<S> {
-    /// Asks the peer for a service, by the PID of the suite and a seed of 16 bytes: the reply is the ACT_REQ to be sent (clause 11.1).
+    /// Asks the peer for a service, by the PID of the suite and a new random seed of 16 bytes. The reply is the ACT_REQ to be sent; the
+    /// entity is then the Sender, in Select (annex A.2). Confirmation 0.
     ///
     /// Refused: 1 (reply buffer below 255 bytes), 2 (seed not of 16 bytes), 5 (not in Idle), 6 (not the suite's PID).
     pub fn invoke(
@@ -46,9 +47,11 @@ impl<S: Suite> Entity<S> {
         }
     }
 
-    /// Protects data of 1 to 200 bytes under the next number: the reply is the ENC to be sent (clause 12.3).
+    /// Protects data of 1 to 200 bytes under the next number (clauses 9.3 and 12.3). The reply is the ENC to be sent. Confirmation 2. To
+    /// send a record again, the same frame is sent: another call makes a new record.
     ///
-    /// Refused: 1 (reply buffer below 255 bytes), 5 (not in Confirmed_SCH), 7 (length of the data), 8 (the number is the last).
+    /// Refused: 1 (reply buffer below 255 bytes), 5 (not in Confirmed_SCH), 7 (data of no byte, or more than 200), 8 (the number is the
+    /// last).
     pub fn send(&mut self, plain: &[u8], reply: &mut [u8]) -> Result<Outcome, Refusal>
         ensures { MakesCall S.scheme (view S.meaning self.old) (sends plain.now (length reply.old)) (view S.meaning self.new) result reply.old reply.new }
     {
@@ -72,9 +75,10 @@ impl<S: Suite> Entity<S> {
         }
     }
 
-    /// Hands out the data of the record taken in, and empties its place. The outcome's length tells how many bytes it has.
+    /// Writes the data of the record received last to `out`, and empties its place (annex A.2). The length of the outcome says how many
+    /// bytes it has, 1 to 200. Confirmation 0.
     ///
-    /// Refused: 5 (not in Confirmed_SCH), 9 (nothing held), 10 (buffer below the data).
+    /// Refused: 5 (not in Confirmed_SCH), 9 (no data is held), 10 (`out` is shorter than the data).
     pub fn retrieve_data(&mut self, out: &mut [u8]) -> Result<Outcome, Refusal>
         ensures { MakesCall S.scheme (view S.meaning self.old) (retrieves (length out.old)) (view S.meaning self.new) result out.old out.new }
     {
@@ -91,9 +95,10 @@ impl<S: Suite> Entity<S> {
         }
     }
 
-    /// Hands out the 16 bytes of the shared secret of a service SSE, to whoever shows a slip.
+    /// Writes the 16 bytes of the shared secret of a session of service SSE to `out` (annex A.2). It alters nothing, and can be called
+    /// again. It requires a slip, which has to be handed in later with a buffer to be cleared. Confirmation 0.
     ///
-    /// Refused: 5 (not in Confirmed_SSE), 10 (buffer below 16 bytes).
+    /// Refused: 5 (not in Confirmed_SSE), 10 (`out` below 16 bytes).
     pub fn retrieve_secret(&self, _slip: &Slip, out: &mut [u8]) -> Result<Outcome, Refusal>
         ensures { MakesCall S.scheme (view S.meaning self.now) (reveals (length out.old)) (view S.meaning self.now) result out.old out.new }
     {
@@ -109,7 +114,7 @@ impl<S: Suite> Entity<S> {
         }
     }
 
-    /// Ends the service: the reply is the TMN to be sent (confirmation 4).
+    /// Ends the session (annex A.2, clause 9.4). The reply is the TMN to be sent. Confirmation 4, with the keys destroyed.
     ///
     /// Refused: 1 (reply buffer below 255 bytes), 5 (in neither Confirmed state).
     pub fn terminate(&mut self, reply: &mut [u8]) -> Result<Outcome, Refusal>
@@ -125,7 +130,8 @@ impl<S: Suite> Entity<S> {
         }
     }
 
-    /// The link below is released: whatever runs, ends (confirmation 4; 0 if nothing ran).
+    /// Ends the session because the link below is gone (clause 9.4). Nothing is written, and it is never refused. Confirmation 4, with the
+    /// keys destroyed; 0 in Idle.
     pub fn release(&mut self) -> Outcome
         ensures { MakesCall S.scheme (view S.meaning self.old) releases (view S.meaning self.new) (Ok result) [] [] }
     {

@@ -13,8 +13,8 @@ use buffers::{MAX_FRAME, MAX_PAYLOAD};
 use protocol::SuiteFault;
 use suite::{Denial, MAX_DATA, MAX_NUMBER, Role, Suite};
 
-// What is asked of the suite. Every key that is asked for is live, and all else is within the suite's limits, so it denies nothing but what is a
-// fault of the protocol. What is written lies in the front of the lent bytes.
+// The calls of the suite. Every key that they name is live, and all else is within the suite's limits, so the suite denies only what is a
+// fault of the protocol (S2, S3). What it writes lies in the front of the scratch bytes, of which that part is returned.
 
 impl<S: Suite> Entity<S> {
     pub(super) fn offer<'a>(&self, seed: &[u8; 16], scratch: &'a mut [u8; MAX_FRAME]) -> &'a [u8]
@@ -53,7 +53,7 @@ impl<S: Suite> Entity<S> {
         &scratch[..n]
     }
 
-    // Role, number and data length of a good payload, whose data lies in the front of the lent bytes.
+    // Returns role, number and data length of a good payload, whose data lies in the front of the scratch bytes; S5 for any other payload.
     pub(super) fn open(
         &self,
         payload: &[u8],
@@ -71,7 +71,7 @@ impl<S: Suite> Entity<S> {
     }
 }
 
-// Makes a shared secret.
+// Makes a shared secret, and returns its serial.
 pub(super) fn agree<S: Suite>(
     suite: &mut S,
     seed: &[u8; 16],
@@ -89,7 +89,7 @@ pub(super) fn agree<S: Suite>(
         })
 }
 
-// Makes a link key of a live shared secret.
+// Makes a link key of a live shared secret, and returns its serial.
 pub(super) fn derive<S: Suite>(suite: &mut S, secret: u32) -> Result<u32, SuiteFault>
     requires { is_some (value_in (S.meaning suite.old).live SharedSecret secret) ≡ true }
     ensures answer { result ≡ serial_result (S.meaning suite.old) (derivation S.scheme (S.meaning suite.old) secret) }

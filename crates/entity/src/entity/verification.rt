@@ -14,7 +14,7 @@ use protocol::{Confirmation, MachineFault, Outcome, State, SuiteFault, in_state}
 use suite::{Role, Suite};
 
 impl<S: Suite> Entity<S> {
-    // Compares the peer's check value with that of its role.
+    // Compares the peer's check value with that of its role (clause 9.2).
     fn verify(&self, role: Role, payload: &[u8]) -> Result<(), SuiteFault>
         requires { has_secret self.now.state ≡ true }
         ensures { result ≡ verification S.scheme (view S.meaning self.now) role payload.now }
@@ -27,7 +27,7 @@ impl<S: Suite> Entity<S> {
         }
     }
 
-    // Puts the service into effect, and answers the serial of the key made for it: SSE needs none.
+    // Puts the service into effect, and returns the serial of the link key made for it: 0 for SSE, which needs none.
     fn confirm(&mut self) -> Result<u32, SuiteFault>
         requires { has_secret self.old.state ≡ true }
         ensures model { view S.meaning self.new ≡ model_of_start (view S.meaning self.old) (service_start S.scheme (view S.meaning self.old) self.old.service) }
@@ -47,7 +47,7 @@ impl<S: Suite> Entity<S> {
         }
     }
 
-    // Established_Recipient: the Recipient compares, and answers by its own check value.
+    // VFY_REQ in Established_Recipient: the Recipient compares, and replies with its own check value.
     pub(super) fn on_vfy_req(
         &mut self,
         payload: &[u8],
@@ -66,7 +66,7 @@ impl<S: Suite> Entity<S> {
         Ok(Outcome::ongoing(Confirmation::Established, length, made))
     }
 
-    // Established_Sender: the Sender compares.
+    // VFY_RES in Established_Sender: the Sender compares.
     pub(super) fn on_vfy_res(&mut self, payload: &[u8]) -> Result<Outcome, MachineFault>
         requires { has_secret self.old.state ≡ true }
         ensures { HasEffect (view S.meaning self.old) (on_vfy_res S.scheme (view S.meaning self.old) payload.now) (view S.meaning self.new) result [] [] }
