@@ -3,7 +3,7 @@
 
 ghost use Rattle.cases.specs.Cases.{Cases};
 
-// The worked cases follow from the definitions.
+/// Does nothing. Its contract says that the worked cases follow from the definitions.
 pub fn cases_stand()
     ensures { Cases }
 {}

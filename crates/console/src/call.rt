@@ -1,4 +1,4 @@
-// What a script has a peer do.
+// What a line of a script has a peer do.
 use super::stopped::Unreadable;
 use super::words::{byte, bytes, size};
 use entity::{Ancillary, Call};
@@ -32,10 +32,10 @@ impl fmt::Display for Name {
     }
 }
 
-// The frame that a peer is to hear.
+// The frame that a peer is to receive.
 #[derive(Drop)]
 pub(super) enum Heard {
-    // The frame that the other peer answered last.
+    // The frame that the other peer wrote last.
     Latest,
     Bytes(Vec<u8>),
 }
@@ -103,7 +103,7 @@ impl Request {
         }
     }
 
-    // The call as an entity takes it, where the other peer answered that frame last.
+    // The call as an entity takes it. `latest` is the frame that the other peer wrote last.
     pub(super) fn call<'a>(&'a self, latest: &'a [u8]) -> Call<'a> {
         match self {
             Request::Invoke { service, pid, seed } => Call::Invoke {
@@ -123,7 +123,7 @@ impl Request {
         }
     }
 
-    // Whether what it writes is a frame for the other peer, and not data or a secret.
+    // Returns whether what it writes is a frame for the other peer, and not data or a secret.
     pub(super) fn writes_frame(&self) -> bool {
         !matches!(self, Request::Data | Request::Secret)
     }
@@ -149,7 +149,7 @@ impl Action {
     }
 }
 
-// The word by which a script has it done.
+// By its word in a script.
 impl fmt::Display for Action {
     fn fmt<W: fmt::Write>(&self, f: &mut fmt::Formatter<W>) -> fmt::Result {
         f.write_str(match self {

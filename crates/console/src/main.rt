@@ -20,7 +20,7 @@ use std::process::ExitCode;
 use stopped::Stopped;
 use turns::play_over;
 
-// What stands before a line that cannot be read is played all the same.
+// The lines before one that cannot be read are played too.
 fn run(rt: &HostRuntime) -> Result<(), Stopped> {
     let mut text = Vec::new(rt.alloc());
     rt.stdin().read_to_end(&mut text)?;

@@ -1,4 +1,4 @@
-// A peer with its entity. Each call of it prints a line.
+// A peer with its entity. Each of its calls prints a line.
 ghost use Rattle.std.specs.Prelude.{◌≤◌, length, IfOk};
 
 use super::call::{Action, Request};
@@ -14,11 +14,11 @@ pub(super) struct Peer<'a, S: Suite> {
     printer: Printer<'a>,
     // None where the activation was refused, and once the entity is put away.
     entity: Option<Entity<S>>,
-    // The frame that it answered last.
+    // The frame that it wrote last.
     latest: Vec<u8>,
 }
 
-// What a call wrote to the front of its buffer.
+// Returns what a call wrote to the front of its buffer: no bytes if it was refused.
 fn written(buffer: &[u8], answer: Result<Outcome, Refusal>) -> &[u8]
     requires { IfOk answer (λ o. o.length ≤ length buffer.now) }
 {
@@ -28,7 +28,7 @@ fn written(buffer: &[u8], answer: Result<Outcome, Refusal>) -> &[u8]
     }
 }
 
-// Keeps the frame that was answered, where a call wrote one.
+// Keeps what a call wrote as the latest frame, if it is one.
 fn keep(latest: &mut Vec<u8>, request: &Request, wrote: &[u8]) -> io::Result<()> {
     if wrote.is_empty() || !request.writes_frame() {
         return Ok(());
@@ -37,7 +37,6 @@ fn keep(latest: &mut Vec<u8>, request: &Request, wrote: &[u8]) -> io::Result<()>
     Ok(latest.extend_from_slice(wrote)?)
 }
 
-// Puts an entity away and closes its suite.
 fn put_away<S: Stack>(entity: Entity<S>) -> Destroyed {
     let (suite, destroyed) = entity.put_away();
     suite.take_down();
@@ -45,7 +44,7 @@ fn put_away<S: Stack>(entity: Entity<S>) -> Destroyed {
 }
 
 impl<'a, S: Stack> Peer<'a, S> {
-    // A peer whose suite stands over that root, with that many further keys where it has a quota.
+    // A peer whose suite has that root, and that many further keys if there is a quota. Without an activation it has no entity.
     pub(super) fn new(
         printer: Printer<'a>,
         activation: Option<Agreed>,
@@ -59,7 +58,7 @@ impl<'a, S: Stack> Peer<'a, S> {
         }
     }
 
-    // Whatever is left of the peer ends.
+    // Ends the peer: an entity that was not put away by the script is put away now.
     pub(super) fn end(self) {
         let Peer {
             printer: _,
@@ -75,7 +74,7 @@ impl<'a, S: Stack> Peer<'a, S> {
         &self.latest
     }
 
-    // Does what the script says, while the other peer's latest frame is at hand.
+    // Does what the script says. `latest` is the frame that the other peer wrote last.
     pub(super) fn play(&mut self, action: &Action, latest: &[u8]) -> io::Result<()> {
         let printer = self.printer;
         match (action, &mut self.entity) {

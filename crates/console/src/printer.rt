@@ -22,7 +22,7 @@ impl<'a> Printer<'a> {
         println!(self.rt; "{name} {what}: {text}")
     }
 
-    // Prints what a call of an entity answered, and where it left the entity.
+    // Prints what a call of an entity returned and wrote, and the state that it left the entity in.
     pub(super) fn answered<S: Suite>(
         &self,
         action: &Action,

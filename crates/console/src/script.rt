@@ -28,7 +28,7 @@ impl Script {
         &self.steps
     }
 
-    // Up to the first line that cannot be read, which the error tells.
+    // Reads up to the first line that cannot be read: the error says which it is. The lines before it are kept.
     pub(super) fn read(&mut self, heap: Global, text: &[u8]) -> Result<(), Stopped> {
         for (number, line) in (1..).zip(text.split(|b| *b == b'\n')) {
             self.read_line(heap, line)

@@ -38,7 +38,7 @@ impl Layers {
     }
 }
 
-// What is a peer's own: its root, and its byte of the activation.
+// What each peer has for itself: its root, and its activation byte, PPi or PPt.
 #[derive(Clone, Copy)]
 pub(super) struct Side {
     pub(super) root: [u8; 16],
@@ -81,7 +81,7 @@ impl Setup {
         }
     }
 
-    // Takes a set-up line that comes after that of the suite.
+    // Reads a set-up line after the one that chooses the suite.
     pub(super) fn set(&mut self, heap: Global, words: &[&str]) -> Result<(), Unreadable> {
         match words {
             ["layer", "quota", keys] => self.layers = self.layers.with_quota(count(keys)?)?,

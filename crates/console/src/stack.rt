@@ -4,11 +4,11 @@ use quota::Quota;
 use suite::Suite;
 use suite_of::{Kind, SuiteOf};
 
-// How a suite is put up over a root, with the further keys that a quota in it allows, and how it ends: the layers are taken off, and the
-// suite at the bottom is closed.
 pub(super) trait Stack: Suite {
+    // Makes the suite with that root, and the layers over it. A quota allows that many further keys.
     fn put_up(root: [u8; 16], keys: u32) -> Self;
 
+    // Takes the layers off, and closes the suite below them.
     fn take_down(self);
 }
 

@@ -1,4 +1,4 @@
-// Why a run does not come to the end of its script.
+// Why a run stopped before the end of its script.
 use hex_text::HexError;
 use std::alloc::AllocError;
 use std::io;

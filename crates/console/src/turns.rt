@@ -1,4 +1,4 @@
-// Two peers are set up, and take their turns.
+// Sets up two peers, and makes their calls in the order of the script.
 use super::call::{Name, Step};
 use super::peer::Peer;
 use super::printer::Printer;
@@ -11,7 +11,7 @@ use quota::Quota;
 use std::io;
 use suite_of::{Kind, SuiteOf};
 
-// The set-up chooses the type of both suites.
+// The set-up of the script decides the type of both suites.
 pub(super) fn play_over<K: Kind>(
     rt: &HostRuntime,
     setup: Setup,
@@ -30,7 +30,7 @@ pub(super) fn play_over<K: Kind>(
     }
 }
 
-// A peer's exchange with the other, which is printed.
+// A peer's exchange of activation bytes with the other, which is printed.
 fn activate(printer: Printer<'_>, own: Side, other: Side) -> io::Result<Option<Agreed>> {
     match Offered::new(own.sec).agree(other.sec) {
         Ok(agreed) => {
@@ -55,7 +55,7 @@ fn turns<S: Stack>(steps: &[Step], a: &mut Peer<S>, b: &mut Peer<S>) -> io::Resu
     Ok(())
 }
 
-// Where there is no call, there is no peer either.
+// Without a call no peer is made, and nothing is printed.
 fn play_with<S: Stack>(
     rt: &HostRuntime,
     setup: Setup,

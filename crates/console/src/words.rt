@@ -1,16 +1,15 @@
-// What one word of a line stands for.
+// Reads the words of a line.
 use super::stopped::Unreadable;
 use std::alloc::{AllocError, Global};
 
 // The longest buffer that a call may be given.
 const MAX_SIZE: u32 = 4096;
 
-// The words of a line, which are parted by blanks.
 pub(super) fn words<'a>(heap: Global, line: &'a str) -> Result<Vec<&'a str>, AllocError> {
     line.split_whitespace().collect(heap)
 }
 
-// Bytes of any number, a dash for none.
+// Any number of bytes in hexadecimal, a dash for none.
 pub(super) fn bytes(heap: Global, word: &str) -> Result<Vec<u8>, Unreadable> {
     match word {
         "-" => Ok(Vec::new(heap)),

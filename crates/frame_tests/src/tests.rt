@@ -4,7 +4,7 @@ use frame::{
     Service,
 };
 
-// Each kind of message is read from its frame, and written as that frame again.
+// Each kind of message is read from its frame, and written as the same frame.
 #[test]
 fn messages(rt: HostRuntime) {
     let frames: [(&[u8], Service, Body<'_>); 8] = [

@@ -1,4 +1,4 @@
-// What the two logs come to when their calls are made again: the records that were sent and handed, session by session.
+// Makes the calls of two logs again: the records that were sent and handed over, session by session.
 use super::log::Made;
 use super::stopped::Stopped;
 use entity::Entity;
@@ -6,7 +6,7 @@ use replay::{Direction, Entry, Logged, SessionRecord, handed_count, replay};
 use std::alloc::{AllocError, Global};
 use suite::Suite;
 
-// The logs of the two ends.
+// The logs of both devices.
 #[derive(Drop)]
 pub(super) struct Logs {
     pub(super) handset: Vec<Made>,
@@ -36,8 +36,7 @@ fn show_records(rt: &HostRuntime, name: &str, entries: &[Entry]) -> Result<(), S
     Ok(())
 }
 
-// Makes the calls of both logs again on two new entities, and prints what each user sent and was handed. What the handset was handed is
-// charged.
+// Prints what each user sent and was handed. What the handset was handed is charged.
 pub(super) fn bill<S: Suite, T: Suite>(
     rt: &HostRuntime,
     handset: &mut Entity<S>,

@@ -5,21 +5,20 @@
 pub(super) enum Fate {
     Arrives,
     Lost,
-    // It comes back to its sender.
+    // It returns to its sender.
     Echoed,
 }
 
 pub(super) struct Record {
     pub(super) text: &'static str,
-    // The passages of its frame, one after the other, until the data is taken. It arrives at least once.
+    // What becomes of its frame each time it is sent, until the data is retrieved. It arrives at least once.
     pub(super) fates: &'static [Fate],
-    // Whether it arrives once more after that.
+    // Whether it arrives once more after that, to be dropped.
     pub(super) late: bool,
 }
 
 use Fate::{Arrives, Echoed, Lost};
 
-// Before noon.
 pub(super) const MORNING: [Record; 2] = [
     Record {
         text: "06:00 chlorine 0.42 l",
@@ -33,7 +32,6 @@ pub(super) const MORNING: [Record; 2] = [
     },
 ];
 
-// After it.
 pub(super) const EVENING: [Record; 3] = [
     Record {
         text: "13:00 acid 0.10 l",

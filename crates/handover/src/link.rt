@@ -1,4 +1,4 @@
-// What passes over the link.
+// The frames that pass over the link.
 use super::day::{Fate, Record};
 use super::station::Station;
 use super::stopped::Stopped;
@@ -8,7 +8,7 @@ use suite::Suite;
 // The PID of the keyed suite.
 const KEYED: u8 = 0xF1;
 
-// The handset asks for a secure channel, and each frame is answered until both have confirmed it.
+// The handset asks for a secure channel, and each reply is passed on until both have confirmed it.
 pub(super) fn activate<S: Suite, T: Suite>(
     handset: &mut Station<S>,
     controller: &mut Station<T>,
@@ -21,7 +21,7 @@ pub(super) fn activate<S: Suite, T: Suite>(
     Ok(())
 }
 
-// The same frame is sent until it has arrived; whatever else comes of it is heard too.
+// The same frame is sent until it has arrived. To seal the data again would make another record.
 pub(super) fn hand_over<S: Suite, T: Suite>(
     from: &mut Station<S>,
     to: &mut Station<T>,

@@ -1,4 +1,4 @@
-// The log of a station: the calls that its entity got, with their bytes.
+// The log of a station: the calls of its entity, with their bytes.
 ghost use Rattle.std.specs.Prelude.{◌≤◌, IfOk};
 
 use entity::{Ancillary, Call};
@@ -37,9 +37,9 @@ impl Frame {
 // A call of a station's entity.
 #[derive(Clone, Copy)]
 pub(super) enum Made {
-    // With a frame from the other device.
+    // A frame came from the other device.
     Heard(Frame),
-    // By the user, with bytes that stand in the program.
+    // The user asked, with bytes that are constants of the program.
     Asked(Call<'static>),
 }
 

@@ -1,5 +1,5 @@
 // A controller hands a day's dosing records to a handset, over a link that loses, repeats and echoes frames. Each call is printed; then the
-// calls of both ends are made again from their logs, which tells what is charged.
+// calls of both devices are made again from their logs, which gives the number of records to be charged.
 #![tactic(auto)]
 
 mod bill;
@@ -20,10 +20,10 @@ use std::io;
 use stopped::Stopped;
 use suite::Suite;
 
-// The installer gave both devices one root.
+// Both devices have the same root from their installer.
 const ROOT: [u8; 16] = *b"bath 3, pump two";
 
-// The byte by which a device says that it supports NFC-SEC.
+// The byte of a device that supports NFC-SEC, PPi or PPt (ISO/IEC 13157-1, annex B.4): bit 7 is ONE.
 const SUPPORTS: u8 = 0x80;
 
 fn agreed() -> Result<Agreed, Stopped> {
@@ -69,7 +69,7 @@ fn end(rt: &HostRuntime, name: &str, entity: Entity<KeyedSuite>) -> io::Result<(
     println!(rt; "  {name} away: {destroyed}")
 }
 
-// The day: what is handed over, and the logs of it.
+// The day: hands the records over, and returns the logs.
 fn live(rt: &HostRuntime) -> Result<Logs, Stopped> {
     let (one, other) = (agreed()?, agreed()?);
     let mut handset = Station::new(rt, "handset", one, suite());
@@ -87,7 +87,7 @@ fn live(rt: &HostRuntime) -> Result<Logs, Stopped> {
     })
 }
 
-// The bill: the same calls once more, on two new entities.
+// The bill: makes the same calls again, on two new entities.
 fn again(rt: &HostRuntime, logs: &Logs) -> Result<(), Stopped> {
     let (one, other) = (agreed()?, agreed()?);
     let mut handset = Entity::new(one, suite());

@@ -1,5 +1,5 @@
-// A device with its entity. Each call is noted in a log, and prints a line: the call, what it answered and wrote, and where it left the
-// entity.
+// A device with its entity. Each call is entered in a log, and prints a line: the call, what it returned and wrote, and the state that it
+// left the entity in.
 use super::log::{Frame, Made, OWN_SEED};
 use super::stopped::Stopped;
 use activation::Agreed;
@@ -10,7 +10,7 @@ use protocol::{Outcome, Refusal};
 use std::alloc::AllocError;
 use suite::Suite;
 
-// Makes a call, and tells what it answered and wrote.
+// Makes a call, and returns what it returned and wrote. The buffer is cleared, since data or a secret may lie in it.
 fn ask<S: Suite>(entity: &mut Entity<S>, call: &Call<'_>) -> (Result<Outcome, Refusal>, Frame) {
     let slip = Slip::take_out();
     let mut buffer = [0; MAX_FRAME];
@@ -42,7 +42,7 @@ impl<'a, S: Suite> Station<'a, S> {
         }
     }
 
-    // The entity and the log of its calls.
+    // Returns the entity, to be put away, and the log of its calls.
     pub(super) fn into_parts(self) -> (Entity<S>, Vec<Made>) {
         let Station {
             rt: _,
@@ -70,7 +70,7 @@ impl<'a, S: Suite> Station<'a, S> {
         Ok(println!(self.rt; "  {name} {call}: {text}")?)
     }
 
-    // Notes a call, makes it and prints it.
+    // Enters a call in the log, makes it and prints it.
     fn make(&mut self, call: &str, made: Made) -> Result<Frame, Stopped> {
         self.log.push(made).map_err(AllocError::from)?;
         let (answer, wrote) = ask(&mut self.entity, &made.logged().call);
@@ -96,7 +96,7 @@ impl<'a, S: Suite> Station<'a, S> {
         self.make("terminate", Made::Asked(Call::Terminate))
     }
 
-    // The data handed out is printed. It is no frame.
+    // Drops what was written, which is data and not a frame: it is printed.
     pub(super) fn retrieve(&mut self) -> Result<(), Stopped> {
         let _data = self.make("data", Made::Asked(Call::RetrieveData))?;
         Ok(())

@@ -1,4 +1,4 @@
-// Why the hand-over did not come to its end.
+// Why the hand-over stopped before its end.
 use activation::Refusal;
 use std::alloc::AllocError;
 use std::io;

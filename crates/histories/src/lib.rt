@@ -1,2 +1,2 @@
-// Histories of calls: no code. What specs/ defines of them, every promise over whole runs speaks of.
+// No code: histories of calls. specs/ defines them, and every promise over whole runs is stated by these definitions.
 #![tactic(auto)]

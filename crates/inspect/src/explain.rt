@@ -1,4 +1,4 @@
-// What one frame is, in words.
+// Prints what one frame is, in words.
 use frame::{Body, CodecFault, Detail, MAX_FRAME, Message, MessageKind, ReadError, Refusal};
 use std::alloc::Global;
 use std::io;
@@ -11,7 +11,7 @@ fn bytes_text(heap: Global, bytes: &[u8]) -> io::Result<String> {
     Ok(hex_text::encode(heap, bytes)?)
 }
 
-// The printable characters as they are, and a dot for any other.
+// Printable characters as they are, and a dot for any other byte.
 fn printable(heap: Global, bytes: &[u8]) -> io::Result<String> {
     let shown = bytes.iter().map(|b| match b {
         b' '..=b'~' => *b as char,

@@ -25,7 +25,7 @@ fn explain_digits(rt: &HostRuntime, number: u64, digits: &[u8]) -> io::Result<()
     }
 }
 
-// Empty lines and comments are passed over, and a dash stands for a frame of no bytes.
+// Skips empty lines and comments. A dash stands for a frame of no bytes.
 fn explain_line(rt: &HostRuntime, number: u64, line: &[u8]) -> io::Result<()> {
     match trimmed(line) {
         [] | [b'#', ..] => Ok(()),

@@ -16,7 +16,7 @@ fn with_link(rt: &impl Abort) -> KeyedSuite {
     suite
 }
 
-// A call that writes answers the length of what it wrote, here to the front of `out`.
+// Asserts that a call returned the length of these bytes, and wrote them to the front of `out`.
 fn wrote(rt: &impl Abort, answer: Result<usize, Denial>, out: &[u8; 255], bytes: &[u8]) {
     assert_eq!(rt; answer, Ok(bytes.len()));
     assert!(rt; out.starts_with(bytes));
@@ -32,7 +32,7 @@ fn numbers(rt: HostRuntime) {
     assert_eq!(rt; (n.offer_length, n.check_length, n.overhead), (16, 8, 13));
 }
 
-// Both peers come to one secret, whoever sent the first offer.
+// Both peers make the same secret: the offers are taken in the order of the roles.
 #[test]
 fn secrets(rt: HostRuntime) {
     const SECRET: [u8; 16] = [
@@ -88,7 +88,7 @@ fn records(rt: HostRuntime) {
     assert_eq!(rt; suite.close(), ROOT);
 }
 
-// At the highest number the data of 200 bytes take thirteen blocks of the keystream, the last of them in part.
+// The highest number, and the longest data: 200 bytes take thirteen blocks of the stream, the last of them in part.
 #[test]
 fn longest(rt: HostRuntime) {
     let mut out = [0; 255];
@@ -109,7 +109,7 @@ fn longest(rt: HostRuntime) {
     assert_eq!(rt; suite.close(), ROOT);
 }
 
-// A payload without data, at the highest number, from which nothing is written; and one under its own tag that has no role.
+// A payload without data at the highest number of four bytes is good, and nothing is written. One with a right tag but no role is not good.
 #[test]
 fn payloads(rt: HostRuntime) {
     const HIGHEST: [u8; 13] = [

@@ -7,7 +7,7 @@ use buffers::MAX_FRAME;
 use std::{fmt, io};
 use suite::{KeyKind, Role, Suite};
 
-// A key that a suite made. (`key_store` has the same two as a label, which does not leave that crate.)
+// A key that a suite made. `key_store` has the same two fields in its `Label`, which is private to that crate.
 #[derive(Clone, Copy)]
 pub(super) struct Key {
     kind: KeyKind,
@@ -46,7 +46,7 @@ impl<'a, S: Suite> Peer<'a, S> {
         suite
     }
 
-    // Sixteen times the role.
+    // A fixed seed, sixteen times the role, so that a run can be followed. A device draws a new one each time.
     fn seed(&self) -> [u8; 16] {
         [self.role.byte(); 16]
     }
@@ -77,7 +77,7 @@ impl<'a, S: Suite> Peer<'a, S> {
         Ok(secret)
     }
 
-    // Both peers compute the Sender's check value.
+    // Both peers compute the Sender's check value, so that the two lines can be compared.
     pub(super) fn check(&self, secret: Key) -> Result<(), Stopped> {
         let mut out = [0; MAX_FRAME];
         let length = self
@@ -96,7 +96,7 @@ impl<'a, S: Suite> Peer<'a, S> {
         Ok(link)
     }
 
-    // Seals a record at number 1.
+    // Number 1, since each session of this program has one record.
     pub(super) fn seal<'b>(
         &self,
         link: Key,

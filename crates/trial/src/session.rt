@@ -20,7 +20,6 @@ fn agree_both<S: Suite, T: Suite>(
     Ok((own, theirs))
 }
 
-// The Sender seals the record, and the Recipient opens it.
 fn protect<S: Suite, T: Suite>(
     sender: &Peer<S>,
     link: Key,

@@ -1,4 +1,4 @@
-// Why a trial did not go on.
+// Why a trial stopped.
 use std::io;
 use suite::Denial;
 use thiserror::Error;
@@ -11,7 +11,7 @@ pub enum Stopped {
     Io(#[from] io::Error),
 }
 
-// A denial is an answer like any other; only an error of output or memory ends the program.
+// A denial is printed as any result of a suite is. Only an error of output or memory ends the program.
 pub(super) fn report<T: Drop>(
     rt: &HostRuntime,
     outcome: Result<T, Stopped>,

@@ -1,4 +1,4 @@
-// The published vectors of FIPS 197 and RFC 4493, computed and compared.
+// Computes the published vectors of FIPS 197 and RFC 4493, and compares.
 #![tactic(auto)]
 
 use aes128::Aes128;
@@ -16,7 +16,7 @@ const MESSAGE: [u8; 64] = [
     0xf6, 0x9f, 0x24, 0x45, 0xdf, 0x4f, 0x9b, 0x17, 0xad, 0x2b, 0x41, 0x7b, 0xe6, 0x6c, 0x37, 0x10,
 ];
 
-// A value and what the standards publish for it.
+// A computed value, and what the standard publishes for it.
 #[derive(Drop)]
 struct Case {
     name: &'static str,

@@ -1,4 +1,4 @@
-// An entity whose calls are compared with what they must answer and write.
+// An entity whose calls are compared with what they must return and write.
 use activation::{Agreed, Offered};
 use entity::{Ancillary, Entity};
 use frame::Service;
@@ -21,7 +21,7 @@ pub fn entity<S: Suite>(rt: &impl Abort, suite: S) -> Entity<S> {
 
 pub type Answer = Result<Outcome, Refusal>;
 
-// A buffer that was full of nines has these bytes in front, and past them is as it was.
+// Whether a buffer that was full of nines has these bytes in front, and nines past them.
 fn holds(out: &[u8; 255], bytes: &[u8]) -> bool {
     out.strip_prefix(bytes)
         .is_some_and(|rest| rest.iter().all(|b| *b == 9))
@@ -39,7 +39,7 @@ fn wanted_of(wanted: Result<Confirmation, Refusal>, length: usize) -> Told {
     Ok((wanted?, length))
 }
 
-// A call confirmed this or was refused for that, and wrote these bytes to a buffer that was full of nines.
+// Asserts that a call confirmed, or was refused, as wanted, and wrote these bytes to a buffer that was full of nines.
 pub fn wrote(
     rt: &impl Abort,
     answer: Answer,

@@ -5,7 +5,7 @@ use entity::{Ancillary, Slip};
 use frame::Service;
 use protocol::{Confirmation, Refusal};
 
-// As many records as there are numbers; then none.
+// As many records are sent as there are numbers. The next one is refused.
 #[test]
 fn last_number(rt: HostRuntime) {
     let mut one = entity(&rt, Bench::new(ROOT));

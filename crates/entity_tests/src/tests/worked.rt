@@ -15,7 +15,7 @@ const ASKED: [u8; 5] = [0x12, 1, 3, 3, 3];
 
 const VERIFIED: [u8; 5] = [0x13, 2, 3, 3, 3];
 
-// The two ends of a secure channel, from the seeds 01 .. and 02 ..
+// Two peers with a secure channel, from the seeds 01 .. and 02 ..
 fn establish<R: Abort, S: Suite, T: Suite>(
     sender: &mut End<'_, R, S>,
     recipient: &mut End<'_, R, T>,
@@ -34,7 +34,7 @@ fn ends(rt: &impl Abort, entity: Entity<Bench>, wanted: Destroyed) {
     assert_eq!(rt; (suite.close(), destroyed), (ROOT, wanted));
 }
 
-// The data of a record is held until it is retrieved; then the same record is dropped. Both ends count on from the newest record.
+// The data of a record is held until it is retrieved; after that the same record is dropped. Both peers count on from the newest record.
 #[test]
 fn records(rt: HostRuntime) {
     const FIRST: [u8; 9] = [0x14, 1, 0, 0, 0, 1, 0x18, 0x1B, 0x35];

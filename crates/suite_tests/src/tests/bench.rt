@@ -4,12 +4,12 @@ use key_store::KeyStore;
 use std::process::Abort;
 use suite::{Denial, KeyKind, Role, Suite};
 
-// Bytes, as a suite takes roles.
+// A suite takes a role as a byte.
 const SENDER: u8 = Role::Sender as u8;
 
 const RECIPIENT: u8 = Role::Recipient as u8;
 
-// What a suite says of its kind and of its serials.
+// What a suite returns of its kind and of its serials.
 #[test]
 fn numbers(rt: HostRuntime) {
     let mut suite = Bench::new([7; 16]);
@@ -25,13 +25,13 @@ fn numbers(rt: HostRuntime) {
     assert_eq!(rt; (n.offer_length, n.check_length, n.overhead), (16, 4, 6));
 }
 
-// A call that writes answers the length of what it wrote, here to the front of `out`.
+// Asserts that a call returned the length of these bytes, and wrote them to the front of `out`.
 fn wrote(rt: &impl Abort, answer: Result<usize, Denial>, out: &[u8; 255], bytes: &[u8]) {
     assert_eq!(rt; answer, Ok(bytes.len()));
     assert!(rt; out.starts_with(bytes));
 }
 
-// The two sides of one agreement, with the seeds 01 .. and 02 ..
+// Both peers of one agreement, with the seeds 01 .. and 02 ..
 fn secrets_agree(rt: &impl Abort, sender: &mut Bench, recipient: &mut Bench) {
     let mut out = [0; 255];
     wrote(rt, sender.offer(&[1; 16], &mut out), &out, &[1; 16]);

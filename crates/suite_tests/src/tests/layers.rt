@@ -10,17 +10,17 @@ use suite::{Denial, KeyKind, Role, Suite};
 
 const ROOT: [u8; 16] = [7; 16];
 
-// A byte, as a suite takes roles.
+// A suite takes a role as a byte.
 const SENDER: u8 = Role::Sender as u8;
 
-// Code that is written for any suite.
+// Code for any suite: it knows of no ledger.
 fn make_and_destroy<S: Suite>(suite: &mut S) {
     let _ = suite.agree(&[1; 16], &[2; 16], SENDER);
     let _ = suite.derive(1);
     let _ = suite.destroy(1);
 }
 
-// Such code knows of no ledger, and yet what a row tells afterwards is so.
+// Even after such code has used the ledger, a row is true of the live keys.
 fn row_after_use<S: Suite>(ledger: &mut Ledger<S>, place: usize) -> Option<Row>
     ensures { IfSome result (IsTrueRow (ledger_meaning S.meaning ledger.new).live) }
 {
