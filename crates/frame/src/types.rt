@@ -120,11 +120,15 @@ impl fmt::Display for MessageKind {
 /// A message without its service: what follows SEP. The payload is borrowed, from the frame where it was read.
 #[derive(Clone, Copy, Debug, PartialEq, Eq)]
 pub enum Body<'a> {
-    /// PID (clause 11.2) and payload.
+    /// PID (clause 11.2) and payload: of an entity, the Sender's offer (clause 9.1).
     ActReq(u8, &'a [u8]),
+    /// The payload: of an entity, the Recipient's offer (clause 9.1).
     ActRes(&'a [u8]),
+    /// The payload: of an entity, the Sender's check value (clause 9.2).
     VfyReq(&'a [u8]),
+    /// The payload: of an entity, the Recipient's check value (clause 9.2).
     VfyRes(&'a [u8]),
+    /// The payload: of an entity, a protected record (clause 9.3).
     Enc(&'a [u8]),
     /// Always empty in a frame (clause 11.4): the writer refuses any payload (3).
     Tmn(&'a [u8]),

@@ -80,11 +80,13 @@ impl fmt::Display for Destroyed {
 /// What a call returns that is not refused.
 #[derive(Clone, Copy, Debug, PartialEq, Eq)]
 pub struct Outcome {
+    /// What happened, for the user.
     pub confirmation: Confirmation,
     /// How many bytes were written to the front of the buffer, at most 255; 0 for none.
     pub length: usize,
     /// The serial of the key that the call made, or 0.
     pub made: u32,
+    /// The keys that the call destroyed.
     pub destroyed: Destroyed,
     /// What was wrong with the peer's frame, or `None`. With a fault the confirmation is 5.
     pub fault: Option<Fault>,
