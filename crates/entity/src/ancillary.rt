@@ -4,7 +4,7 @@ ghost use Rattle.suite.specs.Calls.{is_wrong_seed};
 ghost use Rattle.protocol.specs.declared.refusals.Refusal.TheVariants.{SeedLength};
 ghost use Rattle.entity.specs.CallViews.{ancillary_of, fitted_ancillary};
 
-use crate::bytes::sixteen;
+use crate::bytes::seed_bytes;
 use protocol::Refusal;
 
 /// What is passed to an entity beside a frame.
@@ -27,7 +27,7 @@ impl<'a> Ancillary<'a> {
         ensures { result_map_both fitted_ancillary (λ e. e) result ≡ cond (is_wrong_seed self.entry.seed.now) (Err SeedLength) (Ok (ancillary_of self.entry)) }
     {
         Ok(Fitted {
-            seed: sixteen(self.seed)?,
+            seed: seed_bytes(self.seed)?,
         })
     }
 }

@@ -21,14 +21,14 @@ pub(crate) fn has_room(reply: &[u8]) -> Result<(), Refusal>
     Ok(())
 }
 
-pub(crate) fn sixteen(seed: &[u8]) -> Result<&[u8; 16], Refusal>
+pub(crate) fn seed_bytes(seed: &[u8]) -> Result<&[u8; 16], Refusal>
     ensures { result_map_both (λ x. x.now) (λ e. e) result ≡ cond (is_wrong_seed seed.now) (Err SeedLength) (Ok seed.now) }
 {
     seed.as_array::<16>().ok_or(Refusal::SeedLength)
 }
 
 // Writes a message to the front of a buffer that takes any frame, and answers its length.
-pub(crate) fn put(service: Service, body: Body<'_>, reply: &mut [u8]) -> usize
+pub(crate) fn write_message(service: Service, body: Body<'_>, reply: &mut [u8]) -> usize
     requires room { MAX_FRAME ≤ length reply.old }
     requires short { length (frame_bytes service (contents_of body)) ≤ MAX_FRAME }
     requires plain { is_tmn_with_payload (contents_of body) ≡ false }

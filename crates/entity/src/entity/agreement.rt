@@ -4,7 +4,7 @@ ghost use Rattle.entity.specs.Views.{view};
 
 use super::Entity;
 use super::suite_calls::agree;
-use crate::bytes::put;
+use crate::bytes::write_message;
 use buffers::MAX_FRAME;
 use frame::{Body, Service};
 use protocol::{Confirmation, MachineFault, Outcome, State, SuiteFault, in_state};
@@ -36,7 +36,7 @@ impl<S: Suite> Entity<S> {
         self.secret = made;
         let mut scratch = [0; MAX_FRAME];
         let own = self.offer(seed, &mut scratch);
-        let length = put(service, Body::ActRes(own), reply);
+        let length = write_message(service, Body::ActRes(own), reply);
         Ok(Outcome::ongoing(Confirmation::Nothing, length, made))
     }
 
@@ -57,7 +57,7 @@ impl<S: Suite> Entity<S> {
         self.secret = made;
         let mut scratch = [0; MAX_FRAME];
         let check = self.check_value(Role::Sender, &mut scratch);
-        let length = put(self.service, Body::VfyReq(check), reply);
+        let length = write_message(self.service, Body::VfyReq(check), reply);
         Ok(Outcome::ongoing(Confirmation::Nothing, length, made))
     }
 }

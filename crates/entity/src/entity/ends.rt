@@ -5,7 +5,7 @@ ghost use Rattle.protocol.specs.Calls.{error_effect, error_service};
 ghost use Rattle.entity.specs.Views.{view};
 
 use super::Entity;
-use crate::bytes::put;
+use crate::bytes::write_message;
 use crate::held::Held;
 use buffers::MAX_FRAME;
 use frame::{Body, Service};
@@ -81,7 +81,7 @@ impl<S: Suite> Entity<S> {
         let code = fault.code();
         let service = error_service(self.service, sep, fault.machine.state);
         let payload = [code.letter, code.digit, 0];
-        let length = put(service, Body::Error(&payload), reply);
+        let length = write_message(service, Body::Error(&payload), reply);
         self.end(Confirmation::Error, length, Some(fault))
     }
 }

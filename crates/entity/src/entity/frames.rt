@@ -30,7 +30,7 @@ impl<S: Suite> Entity<S> {
 
     // Reads a frame: returns its message or codec fault, or why it is refused.
     fn admit<'a>(&self, frame: &'a [u8]) -> Result<Result<Message<'a>, CodecFault>, Refusal>
-        ensures heard { result_map_both reading_parts (λ e. e) result ≡ admission (view S.meaning self.now) (reading frame.now) }
+        ensures received { result_map_both reading_parts (λ e. e) result ≡ admission (view S.meaning self.now) (reading frame.now) }
         ensures short { IfOk result (λ h. IfOk h (λ m. length (bytes_after_sep (parts_of m).contents) ≤ MAX_PAYLOAD)) }
     {
         match read(frame) {
@@ -42,19 +42,19 @@ impl<S: Suite> Entity<S> {
     }
 
     // Makes the step of a frame. The machine's fault becomes the entity's, with the code of the message.
-    fn hear(
+    fn handle(
         &mut self,
         sep: u8,
-        heard: Result<Message<'_>, CodecFault>,
+        received: Result<Message<'_>, CodecFault>,
         beside: Fitted<'_>,
         reply: &mut [u8],
     ) -> Result<Outcome, Fault>
         requires room { MAX_FRAME ≤ length reply.old }
-        requires short { IfOk heard (λ m. length (bytes_after_sep (parts_of m).contents) ≤ MAX_PAYLOAD) }
-        ensures step { HasEffect (view S.meaning self.old) (reading_effect S.scheme (view S.meaning self.old) (fitted_ancillary beside.entry) (reading_parts heard.entry)) (view S.meaning self.new) (machine_result result) reply.old reply.new }
+        requires short { IfOk received (λ m. length (bytes_after_sep (parts_of m).contents) ≤ MAX_PAYLOAD) }
+        ensures step { HasEffect (view S.meaning self.old) (reading_effect S.scheme (view S.meaning self.old) (fitted_ancillary beside.entry) (reading_parts received.entry)) (view S.meaning self.new) (machine_result result) reply.old reply.new }
         ensures message { IfErr result (λ f. f.message ≡ sep % 16) }
     {
-        Ok(at_message(sep % 16, self.step(heard, beside, reply))?)
+        Ok(at_message(sep % 16, self.step(received, beside, reply))?)
     }
 
     /// Takes a frame from the peer, 1 to 255 bytes, with the seed brought beside it (clauses 11 and 12). If the length of the outcome is
@@ -75,8 +75,8 @@ impl<S: Suite> Entity<S> {
         let [sep, ..] = frame else {
             return Err(Refusal::FrameLength);
         };
-        let heard = self.admit(frame)?;
-        match self.hear(*sep, heard, beside, reply) {
+        let received = self.admit(frame)?;
+        match self.handle(*sep, received, beside, reply) {
             Ok(outcome) => Ok(outcome),
             Err(fault) => Ok(self.fail(*sep, fault, reply)),
         }

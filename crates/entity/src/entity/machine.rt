@@ -37,15 +37,15 @@ impl<S: Suite> Entity<S> {
     // The state and the message together decide the step (annex A). An ERROR ends the session in every state.
     pub(super) fn step(
         &mut self,
-        heard: Result<Message<'_>, CodecFault>,
+        received: Result<Message<'_>, CodecFault>,
         beside: Fitted<'_>,
         reply: &mut [u8],
     ) -> Result<Outcome, MachineFault>
         requires room { MAX_FRAME ≤ length reply.old }
-        requires short { IfOk heard (λ m. length (bytes_after_sep (parts_of m).contents) ≤ MAX_PAYLOAD) }
-        ensures { HasEffect (view S.meaning self.old) (reading_effect S.scheme (view S.meaning self.old) (fitted_ancillary beside.entry) (reading_parts heard.entry)) (view S.meaning self.new) result reply.old reply.new }
+        requires short { IfOk received (λ m. length (bytes_after_sep (parts_of m).contents) ≤ MAX_PAYLOAD) }
+        ensures { HasEffect (view S.meaning self.old) (reading_effect S.scheme (view S.meaning self.old) (fitted_ancillary beside.entry) (reading_parts received.entry)) (view S.meaning self.new) result reply.old reply.new }
     {
-        let Message { service, body } = in_state(self.state, heard)?;
+        let Message { service, body } = in_state(self.state, received)?;
         match (self.state, body) {
             (_, Body::Error(_)) => Ok(self.end(Confirmation::Error, 0, None)),
             (State::Idle, Body::ActReq(pid, offer)) => {

@@ -40,7 +40,7 @@ impl<S: Suite> Entity<S> {
     }
 
     // Opens a record into the scratch bytes, and keeps its data if it is the next one.
-    fn enter(
+    fn receive(
         &mut self,
         payload: &[u8],
         scratch: &mut [u8; MAX_FRAME],
@@ -60,7 +60,7 @@ impl<S: Suite> Entity<S> {
     }
 
     // Clears the scratch bytes after, since data lay in them. The caller lends them, because a contract cannot speak of a local variable.
-    fn enter_cleanly(
+    fn receive_cleanly(
         &mut self,
         payload: &[u8],
         scratch: &mut [u8; MAX_FRAME],
@@ -70,9 +70,9 @@ impl<S: Suite> Entity<S> {
         ensures step { HasEffect (view S.meaning self.old) (on_enc S.scheme (view S.meaning self.old) payload.now) (view S.meaning self.new) result [] [] }
         ensures cleared { scratch.new ≡ replicate MAX_FRAME 0 }
     {
-        let entered = self.enter(payload, scratch);
+        let received = self.receive(payload, scratch);
         wipe(scratch);
-        entered
+        received
     }
 
     // ENC in Confirmed_SCH: a record. Without a fault there is no reply.
@@ -81,6 +81,6 @@ impl<S: Suite> Entity<S> {
         requires payload { length payload.now ≤ MAX_PAYLOAD }
         ensures { HasEffect (view S.meaning self.old) (on_enc S.scheme (view S.meaning self.old) payload.now) (view S.meaning self.new) result [] [] }
     {
-        self.enter_cleanly(payload, &mut [0; MAX_FRAME])
+        self.receive_cleanly(payload, &mut [0; MAX_FRAME])
     }
 }

@@ -4,7 +4,7 @@ ghost use Rattle.entity.specs.Views.{view};
 
 use super::Entity;
 use super::records::is_record_length;
-use crate::bytes::{has_room, put, sixteen};
+use crate::bytes::{has_room, seed_bytes, write_message};
 use crate::held::Held;
 use crate::slip::Slip;
 use buffers::{MAX_FRAME, write_front};
@@ -28,7 +28,7 @@ impl<S: Suite> Entity<S> {
         ensures { MakesCall S.scheme (view S.meaning self.old) (invocation service pid seed.now (length reply.old)) (view S.meaning self.new) result reply.old reply.new }
     {
         has_room(reply)?;
-        let seed = sixteen(seed)?;
+        let seed = seed_bytes(seed)?;
         match self.state {
             State::Idle => {
                 if pid != S::numbers().pid {
@@ -36,7 +36,7 @@ impl<S: Suite> Entity<S> {
                 }
                 let mut scratch = [0; MAX_FRAME];
                 let offer = self.offer(seed, &mut scratch);
-                let length = put(service, Body::ActReq(pid, offer), reply);
+                let length = write_message(service, Body::ActReq(pid, offer), reply);
                 self.state = State::Select;
                 self.service = service;
                 self.role = Role::Sender;
@@ -67,7 +67,7 @@ impl<S: Suite> Entity<S> {
                 let number = self.number + 1;
                 let mut scratch = [0; MAX_FRAME];
                 let payload = self.seal(number, plain, &mut scratch);
-                let length = put(Service::Sch, Body::Enc(payload), reply);
+                let length = write_message(Service::Sch, Body::Enc(payload), reply);
                 self.number = number;
                 Ok(Outcome::ongoing(Confirmation::DataSent, length, 0))
             }
@@ -123,7 +123,7 @@ impl<S: Suite> Entity<S> {
         has_room(reply)?;
         match self.state {
             State::ConfirmedSse | State::ConfirmedSch => {
-                let length = put(self.service, Body::Tmn(&[]), reply);
+                let length = write_message(self.service, Body::Tmn(&[]), reply);
                 Ok(self.end(Confirmation::Terminated, length, None))
             }
             _ => Err(Refusal::WrongState),

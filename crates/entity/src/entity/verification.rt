@@ -7,7 +7,7 @@ ghost use Rattle.entity.specs.ResultViews.{serial_of_start, model_of_start};
 
 use super::Entity;
 use super::suite_calls::derive;
-use crate::bytes::put;
+use crate::bytes::write_message;
 use buffers::MAX_FRAME;
 use frame::{Body, Service};
 use protocol::{Confirmation, MachineFault, Outcome, State, SuiteFault, in_state};
@@ -62,7 +62,7 @@ impl<S: Suite> Entity<S> {
         let mut scratch = [0; MAX_FRAME];
         let own = self.check_value(Role::Recipient, &mut scratch);
         let made = in_state(state, self.confirm())?;
-        let length = put(self.service, Body::VfyRes(own), reply);
+        let length = write_message(self.service, Body::VfyRes(own), reply);
         Ok(Outcome::ongoing(Confirmation::Established, length, made))
     }
 
