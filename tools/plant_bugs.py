@@ -4,7 +4,8 @@
 usage: tools/plant_bugs.py [--each N] [--seed S] [--jobs J] [--time T] [--only WORD] [--list] CRATE..
 
 No list of bugs is written by hand: they come from the code in crates/CRATE/src, by the rules below. Contracts, ghost members,
-attributes, comments, strings, imports and tests are left alone. The work is done on copies in a temporary folder.
+attributes, comments, strings, imports and tests are left alone, and so are the limits (limits.rt), which definitions take from there:
+they are no code that a contract holds. The work is done on copies in a temporary folder.
 
   --each N     how many bugs that compile for each crate, 12 if left out: one for each function in turn, then a second for each ..
   --seed S     which ones, and in what order: the same seed plants the same bugs
@@ -273,6 +274,8 @@ def bugs_of(crate, below, only):
     enums, others = variants([crate] + below), fields(crate)
     found = collections.OrderedDict()
     for path in sorted((REPOSITORY / "crates" / crate / "src").rglob("*.rt")):
+        if path.name == "limits.rt":
+            continue
         source = path.read_text()
         code = code_of(source)
         for name, kind, start, end, owner in items(code):
