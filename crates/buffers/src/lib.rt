@@ -1,4 +1,4 @@
-// What calls write into buffers that their callers lend: how much at most, and definitions and laws that other crates cite.
+// Writing to the front of a caller's buffer: the limits, the function, and the definitions and laws that other crates cite.
 #![tactic(auto)]
 
 mod front;

@@ -11,7 +11,7 @@ use buffers::MAX_FRAME;
 use frame::{Body, Message, Service, write};
 use protocol::Refusal;
 
-// A reply buffer takes any frame.
+// Refusal 1 for a reply buffer without room for any frame.
 pub(crate) fn has_room(reply: &[u8]) -> Result<(), Refusal>
     ensures { result ≡ cond (is_short_buffer (length reply.now)) (Err ReplyBuffer) (Ok tt) }
 {
@@ -21,13 +21,14 @@ pub(crate) fn has_room(reply: &[u8]) -> Result<(), Refusal>
     Ok(())
 }
 
+// Refusal 2 for a seed that does not have 16 bytes.
 pub(crate) fn seed_bytes(seed: &[u8]) -> Result<&[u8; 16], Refusal>
     ensures { result_map_both (λ x. x.now) (λ e. e) result ≡ cond (is_wrong_seed seed.now) (Err SeedLength) (Ok seed.now) }
 {
     seed.as_array::<16>().ok_or(Refusal::SeedLength)
 }
 
-// Writes a message to the front of a buffer that takes any frame, and answers its length.
+// Writes a message to the front of a buffer with room for any frame, and returns its length.
 pub(crate) fn write_message(service: Service, body: Body<'_>, reply: &mut [u8]) -> usize
     requires room { MAX_FRAME ≤ length reply.old }
     requires short { length (frame_bytes service (contents_of body)) ≤ MAX_FRAME }
@@ -39,7 +40,7 @@ pub(crate) fn write_message(service: Service, body: Body<'_>, reply: &mut [u8]) 
     write(&Message { service, body }, reply).unwrap()
 }
 
-// Zeros, over bytes in which data lay.
+// Sets bytes in which data lay to zeros.
 pub(crate) fn wipe(scratch: &mut [u8; MAX_FRAME])
     ensures { scratch.new ≡ replicate MAX_FRAME 0 }
 {

@@ -13,7 +13,7 @@ fn sep(service: Service, kind: MessageKind) -> u8
     (service.code() << 4) + kind.code()
 }
 
-// Is there a frame of it: short enough, and no payload in TMN.
+// Returns whether it has a frame: at most 255 bytes, and no payload in a TMN.
 fn has_frame(body: &Body<'_>) -> bool
     ensures { result ≡ not (nat_lt MAX_PAYLOAD (length (bytes_after_sep (contents_of body.now))) || is_tmn_with_payload (contents_of body.now)) }
 {
@@ -47,7 +47,8 @@ fn put(message: &Message<'_>, out: &mut [u8]) -> usize
     }
 }
 
-/// Writes the frame of a message to the front of `out`, and answers its length.
+/// Writes the frame of a message to the front of `out`, and returns its length, 1 to 255. `read` makes the same message of it.
+/// Refused, and nothing is written: 1 (`out` below 255 bytes), 3 (a frame of more than 255 bytes, or a TMN with payload).
 pub fn write(message: &Message<'_>, out: &mut [u8]) -> Result<usize, Refusal>
     ensures answer { numbered_result result ≡ length_result (writing_result (parts_of message.now) (length out.old)) }
     ensures bytes { out.new ≡ buffer_after (writing_result (parts_of message.now) (length out.old)) out.old }

@@ -1,7 +1,8 @@
 ghost use Rattle.std.specs.Prelude.{◌≡◌};
 ghost use Rattle.std.specs.Str.{bytes_eq};
 
-// Whether two fields are the same. Of two of one length every byte is looked at, wherever they first differ.
+// Returns whether two fields are equal. Two of the same length are compared over the whole of it, wherever they first differ; no contract
+// speaks of that.
 pub(super) fn same(a: &[u8], b: &[u8]) -> bool
     ensures { result ≡ bytes_eq a.now b.now }
 {

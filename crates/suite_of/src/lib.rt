@@ -1,4 +1,4 @@
-// A suite of any kind that keeps its keys in a store: its calls, written and proved once for all kinds.
+// A suite of any kind that keeps its keys in a store. Its calls are written and proved once for all kinds.
 #![tactic(auto)]
 
 mod bytes;

@@ -10,18 +10,18 @@ use super::kind::Kind;
 use buffers::write_front;
 use suite::Role;
 
-// Role and number.
+// The length of role and number, with which a payload begins.
 const HEAD: usize = 5;
 
-// How many bytes the last field of a payload has.
+// Returns how many bytes the last field of a payload has.
 fn field_length<K: Kind>() -> usize
     ensures { result ≡ K.functions.field_length }
 {
     K::numbers().overhead - HEAD
 }
 
-// Writes all of a payload but its field to the front of a buffer, and returns how many bytes that is. This and the functions below require
-// room, since the calls of a suite have tested the buffer before.
+// Writes a payload without its last field to the front of a buffer, and returns how many bytes that is. This and the functions below
+// require room, since the calls of a suite have tested the buffer before.
 fn write_body<K: Kind>(
     value: &[u8; 16],
     role: Role,
@@ -42,7 +42,7 @@ fn write_body<K: Kind>(
     end
 }
 
-// Writes the payload that protects the data to the front of a buffer, and answers its length. Head and field have at most 21 bytes.
+// Writes the payload that protects the data to the front of a buffer, and returns its length. Head and last field have at most 21 bytes.
 pub(crate) fn write_payload<K: Kind>(
     value: &[u8; 16],
     role: Role,
@@ -59,7 +59,7 @@ pub(crate) fn write_payload<K: Kind>(
     end + write_front(&field[..field_length::<K>()], &mut out[end..]).unwrap()
 }
 
-// Role, number and masked data of a payload; none if it is not good.
+// Returns role, number and masked data of a payload; `None` if it is not good.
 fn parts<'a, K: Kind>(value: &[u8; 16], payload: &'a [u8]) -> Option<(Role, u32, &'a [u8])>
     ensures fits { IfSome result (λ t. length t.2.now ≤ length payload.now) }
     ensures parts { option_map (λ t. (role_byte t.0, t.1, t.2.now)) result ≡ masked_parts K.functions.field_length (K.functions.field_of value.now) payload.now }
@@ -75,7 +75,7 @@ fn parts<'a, K: Kind>(value: &[u8; 16], payload: &'a [u8]) -> Option<(Role, u32,
     Some((role, u32::from_be_bytes([*a, *b, *c, *d]), masked))
 }
 
-// Answers role, number and data length of a payload and writes the data; none, and nothing written, if it is not good.
+// Writes the data of a payload, and returns role, number and data length; `None`, with nothing written, if it is not good.
 pub(crate) fn read_payload<K: Kind>(
     value: &[u8; 16],
     payload: &[u8],
