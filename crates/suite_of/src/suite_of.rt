@@ -14,7 +14,8 @@ use key_store::KeyStore;
 use std::marker::PhantomData;
 use suite::{Denial, HasMeaning, KeyKind, KindNumbers, MAX_DATA, MAX_NUMBER, Role, Suite};
 
-/// A suite of the kind `K`: its root of 16 bytes, and its keys. It cannot be dropped, only closed, so that no live key is lost sight of.
+/// A suite of the kind `K`: its root of 16 bytes, and its keys, of which at most two are live. An offer is the seed, and is fit if it has
+/// 16 bytes. It cannot be copied or dropped, only closed, so that no live key is lost.
 pub struct SuiteOf<K> {
     root: [u8; 16],
     keys: KeyStore,
@@ -26,7 +27,7 @@ pub struct SuiteOf<K> {
 impl<K: Kind> SuiteOf<K> {
     ghost use Rattle.suite_of.specs.KindMeanings.{meaning_of};
 
-    /// A suite with a root and no key.
+    /// A suite with that root and no key. Its last serial is 4,294,967,295.
     pub fn new(root: [u8; 16]) -> SuiteOf<K>
         ensures { meaning_of result ≡ record { root = root; last = 4294967295; newest = 0; live = [] } }
     {
@@ -37,7 +38,7 @@ impl<K: Kind> SuiteOf<K> {
         }
     }
 
-    /// Ends the suite: destroys the keys that are still live, and hands the root back to its owner.
+    /// Ends the suite: destroys the keys that are still live, and returns the root.
     pub fn close(mut self) -> [u8; 16]
         ensures { result ≡ self.root }
     {
@@ -51,7 +52,7 @@ impl<K: Kind> SuiteOf<K> {
         own
     }
 
-    // The value of the live key of that kind and serial.
+    // Returns the value of the live key of that kind and serial; unknown if there is none.
     fn value(&self, kind: KeyKind, key: u32) -> Result<&[u8; 16], Denial>
         ensures { MatchResult result (λ v. Some v.now ≡ value_in (keys_of self.now.keys) kind key) (λ e. (e ≡ Unknown) × (None ≡ value_in (keys_of self.now.keys) kind key)) }
     {
