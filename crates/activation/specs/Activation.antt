@@ -13,12 +13,12 @@ refusal_number NotSupported = 11
 abbrev pub sec_bit : ℕ → Bool
 sec_bit pp = (pp / 128) % 2 == 1
 
--- an exchange ends agreed, with both bytes, or refused, with a number and the byte of the offer that comes back
+-- an exchange ends agreed, with both bytes, or refused, with a number and the byte of the offer that is returned
 pub data Answer : Type 0 where
   agreed : (own peer : ℕ) → Answer
   refused : (number own : ℕ) → Answer
 
--- the exchange of one's own byte and the peer's: agreed where both support NFC-SEC, else refused with number 11
+-- the exchange of own byte and the peer's: agreed where both support NFC-SEC, else refused with number 11
 abbrev pub exchange_answer : ℕ → ℕ → Answer
 exchange_answer own peer = cond (sec_bit own && sec_bit peer) (agreed own peer) (refused 11 own)
 

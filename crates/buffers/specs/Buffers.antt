@@ -13,7 +13,7 @@ front_length new room = cond (nat_le (length new) room) (Some (length new)) None
 abbrev pub with_front_if_room : List ℕ → List ℕ → List ℕ
 with_front_if_room new old = cond (nat_le (length new) (length old)) (with_front new old) old
 
--- the length that the call answers
+-- the length that the call returns
 abbrev pub length_result : {E : Type 0} → Result (List ℕ) E → Result ℕ E
 length_result (Ok p) = Ok (length p)
 length_result (Err e) = Err e

@@ -132,7 +132,7 @@ recipient_of_one_key = call (entity 1) (frame act_req.reply (beside twos) MAX_FR
 abbrev pub keyless : CallEffect
 keyless = after_frame recipient_of_one_key.model vfy_req.reply
 
--- what these calls answer and write
+-- what these calls return and write
 pub record Cases : Type 0 where
   -- the activation: what is written, and that both confirm it
   pub act_req_bytes : act_req.reply ≡ 0x10 ∷ 0xF0 ∷ ones

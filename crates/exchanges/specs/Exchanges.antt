@@ -19,7 +19,7 @@ use Rattle.histories.specs.Sessions.{encs_sent, GetsOnlyCopies, RunningSession}
 use Rattle.exchanges.specs.Peers.{Peer, Peers, last_answer, last_written, after_frame, SetUp, activated_peers, Transfer, from_one, from_other, swapped_peers, after_send, after_transfer, after_transfers, data_from_one, data_from_other, terminated_peers}
 
 -- What is asked of a kind of suite beyond its laws: under one root, check values and link keys depend on the value of the shared secret alone,
--- whatever serials and other keys the suites have. Two peers may have made different keys before, and are to come to the same.
+-- whatever serials and other keys the suites have. Two peers may have made different keys before, and are to make the same ones now.
 pub record DependsOnRootAndValue (s : Scheme) : Type 0 where
   pub checks : (root : List ℕ) (k k' : Keyring) (value : List ℕ) (serial serial' role : ℕ) → IsUnder root k → IsUnder root k' → s.check_of k serial value role ≡ s.check_of k' serial' value role
   pub links : (root : List ℕ) (k k' : Keyring) (value : List ℕ) (serial serial' : ℕ) → IsUnder root k → IsUnder root k' → s.link_of k serial value ≡ s.link_of k' serial' value
@@ -85,19 +85,19 @@ abbrev pub calls_in : History → List Call
 calls_in [] = []
 calls_in (e ∷ h) = e.call ∷ calls_in h
 
--- The calls of the end's past were given bytes. The end is what they leave of a new entity over the suite, with their history.
+-- The calls of the peer's past were given bytes. The peer is what they leave of a new entity over the suite, with their history.
 pub record IsRun (s : Scheme) (means : Meaning) (e : Peer) : Type 0 where
   pub bytes : AllByRecursion IsGivenBytes (calls_in e.past)
   pub model : e.model ≡ entity_after s (new_model means) (calls_in e.past)
   pub past : e.past ≡ history s (new_model means) (calls_in e.past)
 
--- and in this run a link session runs: that of the end's link key, which has this value
+-- and in this run a link session runs: that of the peer's link key, which has this value
 pub record LinkRun (s : Scheme) (means : Meaning) (value : List ℕ) (e : Peer) : Type 0 where
   pub run : IsRun s means e
   pub since : History
   pub session : RunningSession s (new_model means) (calls_in e.past) e.model.link value since
 
--- The two ends are in link sessions whose link keys have this value, and neither got an ENC but copies of those sent in the two: what is
+-- The two peers are in link sessions whose link keys have this value, and each got only ENCs that are copies of those sent in the two: what is
 -- promised of such sessions holds of these, both ways.
 pub record IsJoined (s : Scheme) (x : SetUp) (value : List ℕ) (d : Peers) : Type 0 where
   pub mine : LinkRun s x.mine value d.one
@@ -130,7 +130,7 @@ pub record SharesSecret (s : Scheme) (d : Peers) (room : ℕ) : Type 0 where
   pub long : length (call_effect s d.one.model (retrieve_secret room)).reply ≡ 16
   pub same : (call_effect s d.other.model (retrieve_secret room)).reply ≡ (call_effect s d.one.model (retrieve_secret room)).reply
 
--- or come to share a secret
+-- or share a secret
 abbrev pub SecretSucceeds : Type 0
 SecretSucceeds = (s : Scheme) → IsLawful s → DependsOnRootAndValue s → (x : SetUp) → IsReady Sse x →
     (room : ℕ) → 16 ≤ room → SharesSecret s (activated_peers s Sse x) room
@@ -143,7 +143,7 @@ pub record IsRecordData (plain : List ℕ) : Type 0 where
   pub most : length plain ≤ MAX_DATA
   pub bytes : IsBytes plain
 
--- each line of a talk is the data of a record
+-- each transfer is of the data of a record
 abbrev pub AllRecordData : List Transfer → Type 0
 AllRecordData [] = Unit {0}
 AllRecordData (from_one plain ∷ later) = IsRecordData plain × AllRecordData later
@@ -187,12 +187,12 @@ pub record AllArrives (s : Scheme) (x : SetUp) (d : Peers) (transfers : List Tra
   pub matched : IsMatched value (s.first + length transfers) d
   pub joined : IsJoined s x value d
 
--- so it is with any talk of two entities that were ready
+-- so it is with any transfers of two entities that were ready
 abbrev pub TransfersSucceed : Type 0
 TransfersSucceed = (s : Scheme) → IsLawful s → DependsOnRootAndValue s → (x : SetUp) → IsReady Sch x →
     (transfers : List Transfer) → AllRecordData transfers → s.first + length transfers ≤ s.final → AllArrives s x (after_transfers s (activated_peers s Sch x) transfers) transfers
 
--- The end.
+-- Termination.
 
 -- both in Idle with confirmation 4
 pub record IsTerminated (d : Peers) : Type 0 where
@@ -201,7 +201,7 @@ pub record IsTerminated (d : Peers) : Type 0 where
   pub mine_idle : d.one.model.state ≡ Idle
   pub theirs_idle : d.other.model.state ≡ Idle
 
--- two entities confirmed in one service part
+-- two entities confirmed in one service terminate it
 abbrev pub TerminationSucceeds : Type 0
 TerminationSucceeds = (s : Scheme) (service : Service) (d : Peers) → IsConfirmed service d.one.model → IsConfirmed service d.other.model →
     IsTerminated (terminated_peers s d)
@@ -210,14 +210,14 @@ TerminationSucceeds = (s : Scheme) (service : Service) (d : Peers) → IsConfirm
 abbrev pub HasNoKeyLeft : Peers → Type 0
 HasNoKeyLeft d = (d.one.model.means.live ≡ []) × (d.other.model.means.live ≡ [])
 
--- whichever of the two terminates, they part, and no key is left
+-- whichever of the two terminates, both are in Idle, and no key is left
 pub record EndsWell (s : Scheme) (d : Peers) : Type 0 where
   pub mine : IsTerminated (terminated_peers s d)
   pub mine_gone : HasNoKeyLeft (terminated_peers s d)
   pub theirs : IsTerminated (terminated_peers s (swapped_peers d))
   pub theirs_gone : HasNoKeyLeft (terminated_peers s (swapped_peers d))
 
--- a link after any talk
+-- a link after any transfers
 abbrev pub LinkEnds : Type 0
 LinkEnds = (s : Scheme) → IsLawful s → DependsOnRootAndValue s → (x : SetUp) → IsReady Sch x →
     (transfers : List Transfer) → AllRecordData transfers → s.first + length transfers ≤ s.final → EndsWell s (after_transfers s (activated_peers s Sch x) transfers)

@@ -12,7 +12,7 @@ use Rattle.protocol.specs.Models.{Model, Ancillary, new_model}
 use Rattle.protocol.specs.Calls.{Call, invoke, send, retrieve_data, terminate, frame, call_effect}
 use Rattle.histories.specs.Histories.{History, entry_of}
 
--- What an end brings and lends at each call, by how many calls came before: what goes beside a frame, and how long the buffer is, for a reply
+-- What a peer brings and lends at each call, by how many calls came before: what goes beside a frame, and how long the buffer is, for a reply
 -- or for the data of a record. Each seed has sixteen bytes, and the buffers have room for every frame and every record.
 pub record Supply : Type 0 where
   pub beside : ℕ → Ancillary
@@ -40,7 +40,7 @@ next_room e = e.supply.room (length e.past)
 abbrev pub next_out : Peer → ℕ
 next_out e = e.supply.out (length e.past)
 
--- in an activation the one invokes, and the other is the Recipient
+-- two peers: in an activation the one invokes, and the other is the Recipient
 pub record Peers : Type 0 where
   pub one : Peer
   pub other : Peer
@@ -67,7 +67,7 @@ last_written (e ∷ h) = e.written
 abbrev pub after_frame : Scheme → Peer → Peer → Peer
 after_frame s to from = after_call s to (frame (last_written from.past) (next_beside to) (next_room to))
 
--- two suites with the supplies of their ends, and the seed that the one invokes with
+-- two suites with the supplies of their peers, and the seed that the one invokes with
 pub record SetUp : Type 0 where
   pub mine : Meaning
   pub theirs : Meaning

@@ -1,4 +1,4 @@
--- What the reader answers to any bytes.
+-- What the reader returns for any bytes.
 use Rattle.std.specs.Prelude.{ℕ, ◌/◌, ◌%◌, cond, not, List, [], ◌∷◌, length, Some, None, Ok, Err, Option, Result, ◌==◌, nat_lt}
 use Rattle.std.specs.Option.{ok_or}
 use Rattle.buffers.specs.declared.limits.TheConstants.{MAX_FRAME}

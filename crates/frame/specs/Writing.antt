@@ -1,4 +1,4 @@
--- What the writer answers and writes, and that reader and writer undo each other.
+-- What the writer returns and writes, and that reader and writer undo each other.
 use Rattle.std.specs.Prelude.{◌≡◌, ℕ, ◌≤◌, Bool, cond, not, ◌&&◌, ◌||◌, List, length, take, Ok, Err, Result, ◌==◌, nat_lt}
 use Rattle.buffers.specs.declared.limits.TheConstants.{MAX_FRAME}
 use Rattle.frame.specs.declared.faults.Refusal.{Refusal}

@@ -53,7 +53,7 @@ bytes_from i (a ∷ b ∷ rest) = cond (is_blank a) (bytes_from (i + 1) (b ∷ r
 abbrev pub bytes_of : List ℕ → Result (List ℕ) ℕ
 bytes_of text = bytes_from 0 text
 
--- what the code answers; for want of memory nothing is said
+-- what the code returns; where there is no memory nothing is said
 abbrev pub Decodes : {A : Type 0} → (A → List ℕ) → List ℕ → Result A HexError → Type 0
 Decodes items text (Ok v) = bytes_of text ≡ Ok (items v)
 Decodes items text (Err (NotHex n)) = bytes_of text ≡ Err n

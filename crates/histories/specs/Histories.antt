@@ -130,7 +130,7 @@ frame_given release = []
 abbrev pub data_sent_in : Entry → List (List ℕ)
 data_sent_in e = cond (has_confirmation 2 e.answer) (data_given e.call) []
 
--- the frame of a record taken in: a frame with confirmation 3
+-- the frame of a record received: a frame with confirmation 3
 abbrev pub frames_received_in : Entry → List (List ℕ)
 frames_received_in e = cond (has_confirmation 3 e.answer) (frame_given e.call) []
 

@@ -67,7 +67,7 @@ abbrev pub GetsOnlyCopies : List (List ℕ) → History → Type 0
 GetsOnlyCopies copies [] = Unit {0}
 GetsOnlyCopies copies (e ∷ h) = GetsCopy copies e.call × GetsOnlyCopies copies h
 
--- the first list is a part of the second, in its order, each place used at most once
+-- the first list is a subsequence of the second: in its order, each place used at most once
 pub data IsSubsequence : List (List ℕ) → List (List ℕ) → Type 0 where
   done : {ys : List (List ℕ)} → IsSubsequence [] ys
   skip : {y : List ℕ} {xs ys : List (List ℕ)} → IsSubsequence xs ys → IsSubsequence xs (y ∷ ys)

@@ -1,4 +1,4 @@
--- The keys of a store, and what its calls answer and leave.
+-- The keys of a store, and what its calls return and leave.
 use Rattle.std.specs.Prelude.{ℕ, ◌+◌, Bool, cond, List, [], ◌∷◌, ◌++◌, length, Ok, Err, Result, ◌==◌}
 use Rattle.suite.specs.declared.types.KeyKind.{KeyKind}
 use Rattle.suite.specs.declared.types.Denial.{Denial}
@@ -28,7 +28,7 @@ meaning_of_store root s = record { root = root; last = last_serial; newest = new
 abbrev pub is_store_spent : KeyStore → Bool
 is_store_spent s = is_spent (meaning_of_store [] s)
 
--- What put answers and leaves: the newest serial and the live keys.
+-- What put returns and leaves: the newest serial and the live keys.
 
 -- the serial of the key put, or no further key
 abbrev pub put_result : KeyStore → Result ℕ Denial
@@ -42,6 +42,6 @@ put_newest s = cond (is_store_spent s) (newest_of s) (newest_of s + 1)
 abbrev pub put_keys : KeyStore → KeyKind → List ℕ → List Key
 put_keys s kind value = cond (is_store_spent s) (keys_of s) (keys_of s ++ (record { serial = newest_of s + 1; kind = kind; value = value } ∷ []))
 
--- a store ends if no key is live, and else comes back
+-- a store ends if no key is live, and is returned otherwise
 abbrev pub end_result : KeyStore → Result (Unit {0}) KeyStore
 end_result s = cond (length (keys_of s) == 0) (Ok tt) (Err s)

@@ -35,7 +35,7 @@ rows_with_mark n (r ∷ rs) = cond (r.serial == n) (destroyed_row r ∷ rs) (r �
 abbrev pub has_serial : ℕ → Row → Bool
 has_serial n r = r.serial == n
 
--- the rows after a call that makes a key, by its answer: one more for the serial answered
+-- the rows after a call that makes a key, by its answer: one more for the serial returned
 abbrev pub rows_after_making : KeyKind → Result ℕ Denial → List Row → List Row
 rows_after_making kind (Ok serial) rows = rows ++ (live_row serial kind ∷ [])
 rows_after_making kind (Err e) rows = rows

@@ -50,7 +50,7 @@ pub record KeepsSessions (s : Scheme) (m : Model) (h : History) : Type 0 where
   pub key : (n : ℕ) (since : History) → Runs n h since → (value : List ℕ) × (value_in m.means.live LinkKey n ≡ Some value)
   -- it is by this serial that the entity seals and opens
   pub link : (n : ℕ) (since : History) → Runs n h since → m.link ≡ n
-  -- in a session the number is the first, and one more for each record sent or taken in since the start; it never passes the last
+  -- in a session the number is the first, and one more for each record sent or received since the start; it never passes the last
   pub number : (n : ℕ) (since : History) → Runs n h since → m.number ≡ s.first + length (data_sent since) + length (frames_received since)
   pub last : m.state ≡ ConfirmedSch → m.number ≤ s.final
   pub handed : HandedInSession h
@@ -150,7 +150,7 @@ KindsBothWays = (s t : Scheme) → IsOneKind s t → IsOneKind t s
 
 -- what was handed out in one session, beside what was sent in the other, and the numbers of the records sent in the two
 pub record Follows (out told : List (List ℕ)) (mine theirs : List ℕ) : Type 0 where
-  -- it is a part of what was sent, in its order
+  -- it is a subsequence of what was sent
   pub part : IsSubsequence out told
   -- and its beginning if no number was sent in both
   pub begins : IsDisjoint mine theirs → IsPrefix out told

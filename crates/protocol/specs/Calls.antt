@@ -1,4 +1,4 @@
--- What each call of an entity answers, writes and leaves.
+-- What each call of an entity returns, writes and leaves.
 use Rattle.std.specs.Prelude.{ℕ, ◌+◌, Bool, false, cond, not, ◌&&◌, ◌||◌, List, [], ◌∷◌, length, Some, None, Ok, Err, Option, Result, ◌==◌, nat_lt, nat_le}
 use Rattle.frame.specs.declared.types.Service.{Service}
 use Rattle.frame.specs.declared.types.Service.TheVariants.{Sse, Sch}
@@ -112,7 +112,7 @@ is_record_taken state (error p) = false
 abbrev pub is_blocked : Model → FrameParts → Bool
 is_blocked m p = is_record_taken m.state p.contents && is_same_service p.service m.service && not (is_empty m.held)
 
--- what is heard of a frame, a message or a codec fault; or why it is refused
+-- what is read of a frame, a message or a codec fault; or why it is refused
 abbrev pub admission : Model → Reading → Result (Result FrameParts CodecFault) Refusal
 admission m (unread number) = Err no.FrameLength
 admission m (fault code) = Ok (Err (codec_fault_of code))

@@ -48,7 +48,7 @@ has_secret EstablishedRecipient = true
 has_secret ConfirmedSse = true
 has_secret ConfirmedSch = true
 
--- the state in which records are sent and taken in
+-- the state in which records are sent and received
 abbrev pub has_link : State → Bool
 has_link Idle = false
 has_link Select = false

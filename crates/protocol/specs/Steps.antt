@@ -99,7 +99,7 @@ derivation s means key =
     cond (is_spent means) (Err NoKey)
     (Ok (s.link_of (keyring_of means) key (value_of means.live SharedSecret key)))
 
--- the payload of a record of one's own
+-- the payload of a record that the user sends
 abbrev pub sealed_record : Scheme → Model → ℕ → List ℕ → List ℕ
 sealed_record s m n plain = s.seal_of (keyring_of m.means) m.link (link_value m) (role_byte m.role) n plain
 
@@ -112,7 +112,7 @@ good_record None = Err BadRecord
 abbrev pub opened_record : Scheme → Model → List ℕ → Result (ℕ × ℕ × List ℕ) SuiteFault
 opened_record s m payload = good_record (s.open_of (keyring_of m.means) m.link (link_value m) payload)
 
--- Idle. ACT_REQ: S1, then the Recipient agrees with the seed that the call brings, and answers by its offer.
+-- Idle. ACT_REQ: S1, then the Recipient agrees with the seed that the call brings, and replies with its offer.
 
 -- the entity with a new shared secret
 abbrev pub with_secret : Model → List ℕ → Model
@@ -122,7 +122,7 @@ with_secret m value = record m { means = with_key m.means SharedSecret value; se
 abbrev pub as_recipient : Model → Service → List ℕ → Model
 as_recipient m service value = record (with_secret m value) { state = st.EstablishedRecipient; service = service; role = Recipient }
 
--- the Recipient's answer, once it has agreed
+-- the Recipient's reply, once it has agreed
 abbrev pub offer_effect : Scheme → Model → List ℕ → Step
 offer_effect s m seed = ongoing_effect m conf.Nothing m.secret (frame_bytes m.service (act_res (s.offer_of (keyring_of m.means) seed)))
 
@@ -145,7 +145,7 @@ on_act_res s m offer =
     effect_or_fault m (agreement s m.means m.seed offer Sender) (λ value.
     check_effect s (with_secret m value))
 
--- Established. VFY: the peer's check value is compared, S4; for SCH the link key is derived, S3; the Recipient answers by its own check value.
+-- Established. VFY: the peer's check value is compared, S4; for SCH the link key is derived, S3; the Recipient replies with its own check value.
 
 -- whether a payload is the check value of that role; S4 if not
 abbrev pub verification : Scheme → Model → Role → List ℕ → Result (Unit {0}) SuiteFault
@@ -195,7 +195,7 @@ abbrev pub is_record_length : ℕ → Bool
 is_record_length n = not (n == 0) && not (nat_lt MAX_DATA n)
 
 -- The sequence check of role, number and data length: whether the record is a new one. The same number again is dropped, whatever the role; then
--- comes S5 for one's own role, and Q1 for a number that is not the next or above the last.
+-- comes S5 for the own role, and Q1 for a number that is not the next or above the last.
 abbrev pub sequence_check : Scheme → Model → ℕ × ℕ × ℕ → Result Bool Cause
 sequence_check s m t =
     cond (not (is_record_length t.2)) (Err (Suite BadRecord))
@@ -217,7 +217,7 @@ on_enc s m payload =
     record_effect m t.2 (sequence_check s m (t.0, t.1, length t.2)))
 
 -- The state and the message together decide. M1 where nothing else is said; outside Idle another service than the session's is M2. An ERROR is
--- taken in every state and of every service.
+-- accepted in every state and of every service.
 
 -- whether two services are the same
 abbrev pub is_same_service : Service → Service → Bool

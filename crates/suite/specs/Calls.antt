@@ -1,4 +1,4 @@
--- What each call of a suite answers and writes, and what the suite means after it.
+-- What each call of a suite returns and writes, and what the suite means after it.
 use Rattle.std.specs.Prelude.{ℕ, ◌+◌, Bool, cond, not, ◌||◌, List, [], ◌∷◌, ◌++◌, length, Some, None, Ok, Err, Option, Result, ◌==◌, nat_lt}
 use Rattle.buffers.specs.declared.limits.TheConstants.{MAX_FRAME, MAX_PAYLOAD}
 use Rattle.buffers.specs.Buffers.{with_front}
@@ -10,7 +10,7 @@ use Rattle.suite.specs.declared.types.Denial.TheVariants.{BadOffer, Spent, Unfit
 use Rattle.suite.specs.Meanings.{Meaning, keyring_of, value_in, is_live, keys_without}
 use Rattle.suite.specs.Schemes.{Scheme, is_role}
 
--- A call that makes a key, by the key's value: the serial that it answers, and the meaning after.
+-- A call that makes a key, by the key's value: the serial that it returns, and the meaning after.
 
 -- one key more, under the next serial
 abbrev pub with_key : Meaning → KeyKind → List ℕ → Meaning

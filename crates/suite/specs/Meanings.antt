@@ -58,7 +58,7 @@ abbrev pub is_live : List Key → ℕ → Bool
 is_live [] n = false
 is_live (k ∷ ks) n = k.serial == n || is_live ks n
 
--- the keys but the one of that serial
+-- the keys without the one of that serial
 abbrev pub keys_without : List Key → ℕ → List Key
 keys_without [] n = []
 keys_without (k ∷ ks) n = cond (k.serial == n) ks (k ∷ keys_without ks n)
