@@ -1,8 +1,10 @@
 // What a board brings: the radio, random seeds, and the application.
+ghost use Rattle.std.specs.Prelude.{◌≡◌, OnErr};
+
 use super::advice::Advice;
 use nfc_sec::{ActivationRefusal, MAX_FRAME, Outcome, Refusal, Service};
 
-/// A link of two devices: the bytes PPi and PPt that they exchanged, one's own and the peer's.
+/// A link of two devices: the bytes PPi and PPt that they exchanged, the device's own and the peer's.
 #[derive(Clone, Copy)]
 pub struct Link {
     pub own: u8,
@@ -29,7 +31,7 @@ pub trait Board {
     /// Waits for the next link, and for the exchange of PPi and PPt; none when the device is switched off.
     fn next_link(&mut self) -> Result<Option<Link>, Self::Error>;
 
-    /// Waits for what happens next on the link; none once it is released, by either device or since nothing came in time.
+    /// Waits for what happens next on the link; none once it is released, by either device or because nothing came in time.
     fn next_event<'a>(
         &mut self,
         buffer: &'a mut [u8; MAX_FRAME],
@@ -38,8 +40,9 @@ pub trait Board {
     /// Transmits a frame, and answers whether the peer's radio acknowledged it.
     fn transmit(&mut self, frame: &[u8]) -> Result<bool, Self::Error>;
 
-    /// Draws a seed: 16 random bytes, new each time, which nobody can foresee.
-    fn draw_seed(&mut self, seed: &mut [u8; 16]);
+    /// Draws a seed: 16 random bytes, new each time, which nobody can foresee. Where the source fails, the seed is left as it was.
+    fn draw_seed(&mut self, seed: &mut [u8; 16]) -> Result<(), Self::Error>
+        ensures { OnErr result (seed.new ≡ seed.old) };
 
     /// A record came from the peer. Its bytes are zeros afterwards.
     fn take_record(&mut self, record: &[u8]) -> Result<(), Self::Error>;

@@ -1,4 +1,4 @@
-// One end of a link, on its board: what the device does about each event, and about each answer of its entity.
+// An entity on a board: what the device does about each event, and about what each call of the entity returns.
 ghost use Rattle.std.specs.Prelude.{◌≡◌, ◌≤◌, replicate, IfOk};
 ghost use Rattle.nfc_sec.specs.suite.declared.limits.TheConstants.{MAX_DATA};
 
@@ -41,7 +41,7 @@ impl<'a, B: Board, S: Suite> Device<'a, B, S> {
         }
     }
 
-    /// Puts the entity away, and hands back its suite with the serials of the keys destroyed, 0 for none.
+    /// Puts the entity away. Returns its suite, and the serials of the keys destroyed, 0 for none.
     pub fn put_away(self) -> (S, Destroyed) {
         let Device {
             board: _,
@@ -81,7 +81,7 @@ impl<'a, B: Board, S: Suite> Device<'a, B, S> {
 
     fn invoke(&mut self, service: Service) -> Result<(), B::Error> {
         let pid = S::numbers().pid;
-        self.board.draw_seed(&mut self.seed);
+        self.board.draw_seed(&mut self.seed)?;
         let answer = self
             .entity
             .invoke(service, pid, &self.seed, &mut self.reply);
@@ -91,7 +91,7 @@ impl<'a, B: Board, S: Suite> Device<'a, B, S> {
 
     // Each frame comes with a new seed: which one is an ACT_REQ is not known before.
     fn hear(&mut self, frame: &[u8]) -> Result<(), B::Error> {
-        self.board.draw_seed(&mut self.seed);
+        self.board.draw_seed(&mut self.seed)?;
         let beside = Ancillary { seed: &self.seed };
         let answer = self.entity.frame(frame, beside, &mut self.reply);
         self.seed.fill(0);
@@ -141,7 +141,7 @@ impl<'a, B: Board, S: Suite> Device<'a, B, S> {
             Confirmation::DataAvailable => self.retrieve(),
             // 4 and 5: the session is over and its keys are destroyed. The application knows, and may ask for a service again.
             Confirmation::Terminated | Confirmation::Error => Ok(()),
-            // 0, 1 of SCH, 2 and 6: it goes on. What was dropped was taken in before.
+            // 0, 1 of SCH, 2 and 6: it goes on. A record that was dropped is not shown to the application.
             Confirmation::Nothing
             | Confirmation::Established
             | Confirmation::DataSent
@@ -149,7 +149,7 @@ impl<'a, B: Board, S: Suite> Device<'a, B, S> {
         }
     }
 
-    // Transmits what was written, and the same bytes again where they are not delivered. Answers whether they are, in the end.
+    // Transmits what was written, and the same bytes again where they are not delivered. Returns whether they are in the end.
     fn transmit(&mut self, length: usize) -> Result<bool, B::Error>
         requires { length ≤ MAX_FRAME }
     {

@@ -94,9 +94,10 @@ impl Board for Example<'_> {
     }
 
     // Fixed seeds, so that the day can be followed. A device draws them at random.
-    fn draw_seed(&mut self, seed: &mut [u8; 16]) {
+    fn draw_seed(&mut self, seed: &mut [u8; 16]) -> io::Result<()> {
         self.seeds = self.seeds.wrapping_add(1);
         seed.fill(self.seeds);
+        Ok(())
     }
 
     fn take_record(&mut self, record: &[u8]) -> io::Result<()> {
