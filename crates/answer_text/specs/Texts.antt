@@ -31,7 +31,8 @@ keys_text outcome = codes "made " ++ decimal outcome.made ++ codes ", " ++ destr
 
 -- what follows an outcome's confirmation
 abbrev pub report_text : Outcome → List ℕ → List ℕ
-report_text outcome wrote = codes "wrote " ++ wrote ++ codes ", " ++ keys_text outcome ++ codes ", " ++ fault_text outcome.fault
+report_text outcome wrote =
+    codes "wrote " ++ wrote ++ codes ", " ++ keys_text outcome ++ codes ", " ++ fault_text outcome.fault
 
 -- The plain text: numbers alone.
 
@@ -49,7 +50,8 @@ plain_text answer wrote state number = plain_answer answer wrote
 abbrev pub worded_answer : Result Outcome Refusal → List ℕ → List ℕ
 worded_answer (Ok outcome) wrote = codes "confirmation " ++ decimal (confirmation_number outcome.confirmation)
     ++ codes " " ++ confirmation_words outcome.confirmation ++ codes ", " ++ report_text outcome wrote
-worded_answer (Err refusal) wrote = codes "refused " ++ decimal (refusal_number refusal) ++ codes ", " ++ refusal_words refusal
+worded_answer (Err refusal) wrote =
+    codes "refused " ++ decimal (refusal_number refusal) ++ codes ", " ++ refusal_words refusal
 
 abbrev pub worded_text : Result Outcome Refusal → List ℕ → State → ℕ → List ℕ
 worded_text answer wrote state number = worded_answer answer wrote

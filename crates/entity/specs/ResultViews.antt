@@ -29,7 +29,8 @@ serial_of_start (Err e) = Err e
 
 -- M2 where the service is not the session's
 abbrev pub session_result : Model → Service → Result (Unit {0}) MachineFault
-session_result m service = cond (is_same_service service m.service) (Ok tt) (Err (record { cause = OtherService; state = m.state }))
+session_result m service =
+    cond (is_same_service service m.service) (Ok tt) (Err (record { cause = OtherService; state = m.state }))
 
 -- a message that was read, or a codec fault
 abbrev pub reading_parts : Result Message CodecFault → Result FrameParts CodecFault

@@ -21,8 +21,10 @@ use Rattle.exchanges.specs.Peers.{Peer, Peers, last_answer, last_written, after_
 -- What is asked of a kind of suite beyond its laws: under one root, check values and link keys depend on the value of the shared secret alone,
 -- whatever serials and other keys the suites have. Two peers may have made different keys before, and are to make the same ones now.
 pub record DependsOnRootAndValue (s : Scheme) : Type 0 where
-  pub checks : (root : List ℕ) (k k' : Keyring) (value : List ℕ) (serial serial' role : ℕ) → IsUnder root k → IsUnder root k' → s.check_of k serial value role ≡ s.check_of k' serial' value role
-  pub links : (root : List ℕ) (k k' : Keyring) (value : List ℕ) (serial serial' : ℕ) → IsUnder root k → IsUnder root k' → s.link_of k serial value ≡ s.link_of k' serial' value
+  pub checks : (root : List ℕ) (k k' : Keyring) (value : List ℕ) (serial serial' role : ℕ) → IsUnder root k →
+      IsUnder root k' → s.check_of k serial value role ≡ s.check_of k' serial' value role
+  pub links : (root : List ℕ) (k k' : Keyring) (value : List ℕ) (serial serial' : ℕ) → IsUnder root k →
+      IsUnder root k' → s.link_of k serial value ≡ s.link_of k' serial' value
 
 -- so it is with every kind of the form that `suite_of` gives
 abbrev pub KindsDependOnRootAndValue : Type 0
@@ -117,7 +119,9 @@ pub record IsLinked (s : Scheme) (x : SetUp) (d : Peers) : Type 0 where
 
 -- any two entities that are ready are linked
 abbrev pub LinkSucceeds : Type 0
-LinkSucceeds = (s : Scheme) → IsLawful s → DependsOnRootAndValue s → (x : SetUp) → IsReady Sch x → IsLinked s x (activated_peers s Sch x)
+LinkSucceeds =
+    (s : Scheme) → IsLawful s → DependsOnRootAndValue s → (x : SetUp) → IsReady Sch x →
+    IsLinked s x (activated_peers s Sch x)
 
 -- both in Confirmed_SSE with confirmation 1, and both users retrieve the same sixteen bytes
 pub record SharesSecret (s : Scheme) (d : Peers) (room : ℕ) : Type 0 where
@@ -190,7 +194,8 @@ pub record AllArrives (s : Scheme) (x : SetUp) (d : Peers) (transfers : List Tra
 -- so it is with any transfers of two entities that were ready
 abbrev pub TransfersSucceed : Type 0
 TransfersSucceed = (s : Scheme) → IsLawful s → DependsOnRootAndValue s → (x : SetUp) → IsReady Sch x →
-    (transfers : List Transfer) → AllRecordData transfers → s.first + length transfers ≤ s.final → AllArrives s x (after_transfers s (activated_peers s Sch x) transfers) transfers
+    (transfers : List Transfer) → AllRecordData transfers → s.first + length transfers ≤ s.final →
+        AllArrives s x (after_transfers s (activated_peers s Sch x) transfers) transfers
 
 -- Termination.
 
@@ -203,7 +208,9 @@ pub record IsTerminated (d : Peers) : Type 0 where
 
 -- two entities confirmed in one service terminate it
 abbrev pub TerminationSucceeds : Type 0
-TerminationSucceeds = (s : Scheme) (service : Service) (d : Peers) → IsConfirmed service d.one.model → IsConfirmed service d.other.model →
+TerminationSucceeds =
+    (s : Scheme) (service : Service) (d : Peers) → IsConfirmed service d.one.model →
+    IsConfirmed service d.other.model → 
     IsTerminated (terminated_peers s d)
 
 -- neither suite has a live key
@@ -220,11 +227,14 @@ pub record EndsWell (s : Scheme) (d : Peers) : Type 0 where
 -- a link after any transfers
 abbrev pub LinkEnds : Type 0
 LinkEnds = (s : Scheme) → IsLawful s → DependsOnRootAndValue s → (x : SetUp) → IsReady Sch x →
-    (transfers : List Transfer) → AllRecordData transfers → s.first + length transfers ≤ s.final → EndsWell s (after_transfers s (activated_peers s Sch x) transfers)
+    (transfers : List Transfer) → AllRecordData transfers → s.first + length transfers ≤ s.final →
+        EndsWell s (after_transfers s (activated_peers s Sch x) transfers)
 
 -- and a shared secret
 abbrev pub SecretEnds : Type 0
-SecretEnds = (s : Scheme) → IsLawful s → DependsOnRootAndValue s → (x : SetUp) → IsReady Sse x → EndsWell s (activated_peers s Sse x)
+SecretEnds =
+    (s : Scheme) → IsLawful s → DependsOnRootAndValue s → (x : SetUp) → IsReady Sse x →
+    EndsWell s (activated_peers s Sse x)
 
 -- there are entities ready for a link
 abbrev pub SomeIsReady : Type 0

@@ -51,7 +51,8 @@ new_peer means supply = record { model = new_model means; past = []; supply = su
 
 -- one more call
 abbrev pub after_call : Scheme → Peer → Call → Peer
-after_call s e c = record e { model = (call_effect s e.model c).model; past = entry_of c (call_effect s e.model c) ∷ e.past }
+after_call s e c =
+    record e { model = (call_effect s e.model c).model; past = entry_of c (call_effect s e.model c) ∷ e.past }
 
 -- what its last call answered
 abbrev pub last_answer : History → Result Outcome Refusal
@@ -79,7 +80,8 @@ pub record SetUp : Type 0 where
 
 -- the one invokes: ACT_REQ is sent
 abbrev pub act_req_sent : Scheme → Service → SetUp → Peer
-act_req_sent s service x = let new = new_peer x.mine x.my_supply in after_call s new (invoke service s.pid x.seed (next_room new))
+act_req_sent s service x =
+    let new = new_peer x.mine x.my_supply in after_call s new (invoke service s.pid x.seed (next_room new))
 
 -- the other receives it: ACT_RES is sent
 abbrev pub act_res_sent : Scheme → Service → SetUp → Peer
@@ -122,13 +124,15 @@ after_retrieve s e = after_call s e (retrieve_data (next_out e))
 
 -- one record: sent, passed on, and retrieved
 abbrev pub after_transfer : Scheme → Peers → List ℕ → Peers
-after_transfer s d plain = record { one = after_send s d.one plain; other = after_retrieve s (after_frame s d.other (after_send s d.one plain)) }
+after_transfer s d plain =
+    record { one = after_send s d.one plain; other = after_retrieve s (after_frame s d.other (after_send s d.one plain)) }
 
 -- one record after the other
 abbrev pub after_transfers : Scheme → Peers → List Transfer → Peers
 after_transfers s d [] = d
 after_transfers s d (from_one plain ∷ later) = after_transfers s (after_transfer s d plain) later
-after_transfers s d (from_other plain ∷ later) = after_transfers s (swapped_peers (after_transfer s (swapped_peers d) plain)) later
+after_transfers s d (from_other plain ∷ later) =
+    after_transfers s (swapped_peers (after_transfer s (swapped_peers d) plain)) later
 
 -- what the one sends
 abbrev pub data_from_one : List Transfer → List (List ℕ)

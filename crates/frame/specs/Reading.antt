@@ -67,7 +67,9 @@ service_and_kind (Some s) (Some k) = Ok (s, k)
 
 -- service and kind that SEP names, or the fault
 abbrev pub sep_reading : ℕ → Result (Service × MessageKind) FaultCode
-sep_reading b = cond (not (rfu_bits b == 0)) (Err (codec_code 1 0)) (service_and_kind (service_with (svc_bits b)) (kind_with (msg_bits b)))
+sep_reading b =
+    cond (not (rfu_bits b == 0)) (Err (codec_code 1 0))
+    (service_and_kind (service_with (svc_bits b)) (kind_with (msg_bits b)))
 
 -- what follows: C4 where ACT_REQ has no PID or TMN has payload
 abbrev pub contents_reading : MessageKind → List ℕ → Result Contents FaultCode

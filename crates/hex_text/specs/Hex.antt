@@ -47,7 +47,9 @@ with_byte at (Some b) (Err n) = Err n
 abbrev pub bytes_from : ℕ → List ℕ → Result (List ℕ) ℕ
 bytes_from i [] = Ok []
 bytes_from i (a ∷ []) = cond (is_blank a) (Ok []) (Err i)
-bytes_from i (a ∷ b ∷ rest) = cond (is_blank a) (bytes_from (i + 1) (b ∷ rest)) (with_byte i (byte_of_digits (digit_value a) (digit_value b)) (bytes_from (i + 2) rest))
+bytes_from i (a ∷ b ∷ rest) =
+    cond (is_blank a) (bytes_from (i + 1) (b ∷ rest))
+    (with_byte i (byte_of_digits (digit_value a) (digit_value b)) (bytes_from (i + 2) rest))
 
 -- the bytes of a text, or the place of what is wrong
 abbrev pub bytes_of : List ℕ → Result (List ℕ) ℕ

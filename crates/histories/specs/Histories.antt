@@ -98,7 +98,8 @@ session_started (Ok o) = cond (confirmation_number o.confirmation == 1) o.made 0
 -- after the history the link session with link key n runs, and these calls were made in it since its start
 pub data Runs (n : ℕ) : History → History → Type 0 where
   starts : {e : Entry} {h : History} → 0 < n → session_started e.answer ≡ n → Runs n (e ∷ h) []
-  goes_on : {e : Entry} {h since : History} → Runs n h since → is_member n (serials_destroyed_in e.answer) ≡ false → Runs n (e ∷ h) (e ∷ since)
+  goes_on : {e : Entry} {h since : History} → Runs n h since →
+      is_member n (serials_destroyed_in e.answer) ≡ false → Runs n (e ∷ h) (e ∷ since)
 
 -- some link session runs
 abbrev pub SomeRuns : History → Type 0

@@ -6,7 +6,8 @@ use Rattle.histories.specs.Histories.{Entry, History, session_started, serials_d
 
 -- the session that runs after a call, by its answer and the session that ran before: 0 for none
 abbrev pub next_session : ℕ → Result Outcome Refusal → ℕ
-next_session n answer = cond (session_started answer == 0) (cond (is_member n (serials_destroyed_in answer)) 0 n) (session_started answer)
+next_session n answer =
+    cond (session_started answer == 0) (cond (is_member n (serials_destroyed_in answer)) 0 n) (session_started answer)
 
 -- the link key of the session that runs after a history, 0 where none does
 abbrev pub running_session : History → ℕ
@@ -15,7 +16,8 @@ running_session (e ∷ h) = next_session (running_session h) e.answer
 
 -- after the history the link session with link key n is over, and these calls were made in it; the last reports the link key destroyed
 pub data HasEnded (n : ℕ) : History → History → Type 0 where
-  ends : {e : Entry} {h since : History} → Runs n h since → is_member n (serials_destroyed_in e.answer) ≡ true → HasEnded n (e ∷ h) (e ∷ since)
+  ends : {e : Entry} {h since : History} → Runs n h since → is_member n (serials_destroyed_in e.answer) ≡ true →
+      HasEnded n (e ∷ h) (e ∷ since)
   stays : {e : Entry} {h since : History} → HasEnded n h since → HasEnded n (e ∷ h) since
 
 -- in the history there was a link session with link key n: it runs or is over
@@ -52,4 +54,6 @@ direction_number was_handed = 1
 -- the data of the records of the session with link key n that went that way
 abbrev pub data_of : ℕ → Direction → List SessionRecord → List (List ℕ)
 data_of n direction [] = []
-data_of n direction (c ∷ cs) = cond (c.session == n && direction_number c.direction == direction_number direction) (c.plain ∷ data_of n direction cs) (data_of n direction cs)
+data_of n direction (c ∷ cs) =
+    cond (c.session == n && direction_number c.direction == direction_number direction)
+    (c.plain ∷ data_of n direction cs) (data_of n direction cs)

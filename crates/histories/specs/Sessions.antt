@@ -88,9 +88,12 @@ next_entry s m calls c = entry_of c (call_effect s (entity_after s m calls) c)
 
 -- after these calls it is over: its last call reported the link key destroyed
 pub data EndedSession (s : Scheme) (m : Model) : List Call → ℕ → List ℕ → History → Type 0 where
-  ends : {calls : List Call} {n : ℕ} {value : List ℕ} {since : History} (c : Call) → RunningSession s m calls n value since
-      → is_member n (serials_destroyed_in (next_entry s m calls c).answer) ≡ true → EndedSession s m (c ∷ calls) n value (next_entry s m calls c ∷ since)
-  stays : {calls : List Call} {n : ℕ} {value : List ℕ} {since : History} (c : Call) → EndedSession s m calls n value since
+  ends : {calls : List Call} {n : ℕ} {value : List ℕ} {since : History} (c : Call) →
+      RunningSession s m calls n value since
+      → is_member n (serials_destroyed_in (next_entry s m calls c).answer) ≡ true →
+          EndedSession s m (c ∷ calls) n value (next_entry s m calls c ∷ since)
+  stays : {calls : List Call} {n : ℕ} {value : List ℕ} {since : History} (c : Call) →
+      EndedSession s m calls n value since
       → EndedSession s m (c ∷ calls) n value since
 
 -- a link session of these calls, running or over
@@ -102,12 +105,14 @@ abbrev keyring_after : Scheme → Model → List Call → Keyring
 keyring_after s m calls = keyring_of (entity_after s m calls).means
 
 -- that of a session that is over, before its last call
-abbrev keyring_then : {s : Scheme} {m : Model} {calls : List Call} {n : ℕ} {value : List ℕ} {since : History} → EndedSession s m calls n value since → Keyring
+abbrev keyring_then : {s : Scheme} {m : Model} {calls : List Call} {n : ℕ} {value : List ℕ} {since : History} →
+    EndedSession s m calls n value since → Keyring
 keyring_then {s} {m} (ends {calls} c x d) = keyring_after s m calls
 keyring_then (stays c x) = keyring_then x
 
 -- the keyring of a session's suite, the same in all of the session: no key is made in it, and none is destroyed before its end
-abbrev pub keyring_at : {s : Scheme} {m : Model} {calls : List Call} {n : ℕ} {value : List ℕ} {since : History} → LinkSession s m calls n value since → Keyring
+abbrev pub keyring_at : {s : Scheme} {m : Model} {calls : List Call} {n : ℕ} {value : List ℕ} {since : History} →
+    LinkSession s m calls n value since → Keyring
 keyring_at {s} {m} {calls} (inl x) = keyring_after s m calls
 keyring_at (inr x) = keyring_then x
 

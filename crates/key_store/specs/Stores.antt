@@ -40,7 +40,9 @@ put_newest s = cond (is_store_spent s) (newest_of s) (newest_of s + 1)
 
 -- the live keys after
 abbrev pub put_keys : KeyStore → KeyKind → List ℕ → List Key
-put_keys s kind value = cond (is_store_spent s) (keys_of s) (keys_of s ++ (record { serial = newest_of s + 1; kind = kind; value = value } ∷ []))
+put_keys s kind value =
+    cond (is_store_spent s) (keys_of s)
+    (keys_of s ++ (record { serial = newest_of s + 1; kind = kind; value = value } ∷ []))
 
 -- a store ends if no key is live, and is returned otherwise
 abbrev pub end_result : KeyStore → Result (Unit {0}) KeyStore

@@ -47,11 +47,13 @@ pub record KeepsSessions (s : Scheme) (m : Model) (h : History) : Type 0 where
   pub runs : m.state ≡ ConfirmedSch → SomeRuns h
   pub confirmed : (n : ℕ) (since : History) → Runs n h since → m.state ≡ ConfirmedSch
   -- the session's number is the serial of a live link key
-  pub key : (n : ℕ) (since : History) → Runs n h since → (value : List ℕ) × (value_in m.means.live LinkKey n ≡ Some value)
+  pub key : (n : ℕ) (since : History) → Runs n h since →
+      (value : List ℕ) × (value_in m.means.live LinkKey n ≡ Some value)
   -- it is by this serial that the entity seals and opens
   pub link : (n : ℕ) (since : History) → Runs n h since → m.link ≡ n
   -- in a session the number is the first, and one more for each record sent or received since the start; it never passes the last
-  pub number : (n : ℕ) (since : History) → Runs n h since → m.number ≡ s.first + length (data_sent since) + length (frames_received since)
+  pub number : (n : ℕ) (since : History) → Runs n h since →
+      m.number ≡ s.first + length (data_sent since) + length (frames_received since)
   pub last : m.state ≡ ConfirmedSch → m.number ≤ s.final
   pub handed : HandedInSession h
 
@@ -64,10 +66,13 @@ pub record ReportsSessions (m : Model) (h : History) : Type 0 where
   pub none : m.state ≢ ConfirmedSch → running_session h ≡ 0
   -- the records told of the session that runs are those of its calls, in their order
   pub sent_told : (n : ℕ) (since : History) → Runs n h since → data_of n was_sent (session_records h) ≡ data_sent since
-  pub handed_told : (n : ℕ) (since : History) → Runs n h since → data_of n was_handed (session_records h) ≡ data_handed since
+  pub handed_told : (n : ℕ) (since : History) → Runs n h since →
+      data_of n was_handed (session_records h) ≡ data_handed since
   -- so are those of a session that is over
-  pub sent_over : (n : ℕ) (since : History) → HasEnded n h since → data_of n was_sent (session_records h) ≡ data_sent since
-  pub handed_over : (n : ℕ) (since : History) → HasEnded n h since → data_of n was_handed (session_records h) ≡ data_handed since
+  pub sent_over : (n : ℕ) (since : History) → HasEnded n h since →
+      data_of n was_sent (session_records h) ≡ data_sent since
+  pub handed_over : (n : ℕ) (since : History) → HasEnded n h since →
+      data_of n was_handed (session_records h) ≡ data_handed since
   -- and no others are told
   pub no_others : (n : ℕ) (direction : Direction) → data_of n direction (session_records h) ≢ [] → HasSession n h
 
@@ -86,8 +91,10 @@ pub record ServesAsSecret (s : Scheme) (means : Meaning) (key : ℕ) : Type 0 wh
 
 -- a key that can be asked to seal up to MAX_DATA bytes under any number up to the last, and to open any payload that a frame has room for
 pub record ServesAsLink (s : Scheme) (means : Meaning) (key : ℕ) : Type 0 where
-  pub seal : (role : Role) (n : ℕ) (plain : List ℕ) (room : ℕ) → length plain ≤ MAX_DATA → n ≤ s.final → MAX_FRAME ≤ room → IsWellAsked (seal_result s means key (role_byte role) n plain room)
-  pub unseal : (payload : List ℕ) (room : ℕ) → length payload ≤ MAX_PAYLOAD → MAX_FRAME ≤ room → IsWellAsked (open_result s means key payload room)
+  pub seal : (role : Role) (n : ℕ) (plain : List ℕ) (room : ℕ) → length plain ≤ MAX_DATA → n ≤ s.final →
+      MAX_FRAME ≤ room → IsWellAsked (seal_result s means key (role_byte role) n plain room)
+  pub unseal : (payload : List ℕ) (room : ℕ) → length payload ≤ MAX_PAYLOAD → MAX_FRAME ≤ room →
+      IsWellAsked (open_result s means key payload room)
 
 -- Whatever a call asks of the suite, in the state that the entity is in, is not denied as unfit or unknown. What a call does is defined without
 -- denials, by the values of live keys: it is with these that the suite answers.
@@ -96,11 +103,14 @@ pub record AsksWell (s : Scheme) (m : Model) : Type 0 where
   -- the keys that a call works with are live
   pub live : HasLiveKeys m.means m.state m.secret m.link
   -- invoke and ACT_REQ ask for an offer, ACT_REQ and ACT_RES for an agreement; ACT_RES brings no seed, so one is kept
-  pub offer : (seed : List ℕ) (room : ℕ) → length seed ≡ 16 → MAX_FRAME ≤ room → IsWellAsked (offer_result s m.means seed room)
-  pub agreement : (seed offer : List ℕ) (role : Role) → length seed ≡ 16 → IsWellAsked (agree_result s m.means seed offer (role_byte role))
+  pub offer : (seed : List ℕ) (room : ℕ) → length seed ≡ 16 → MAX_FRAME ≤ room →
+      IsWellAsked (offer_result s m.means seed room)
+  pub agreement : (seed offer : List ℕ) (role : Role) → length seed ≡ 16 →
+      IsWellAsked (agree_result s m.means seed offer (role_byte role))
   pub kept_seed : m.state ≡ Select → length m.seed ≡ 16
   -- the call that agrees may ask at once for a check value of the new secret
-  pub new_secret : has_secret m.state ≡ false → (value : List ℕ) → ServesAsSecret s (with_key m.means SharedSecret value) (m.means.newest + 1)
+  pub new_secret : has_secret m.state ≡ false → (value : List ℕ) →
+      ServesAsSecret s (with_key m.means SharedSecret value) (m.means.newest + 1)
   -- VFY_REQ, VFY_RES and retrieve_secret ask for the shared secret, send and ENC for the link key
   pub secret : has_secret m.state ≡ true → ServesAsSecret s m.means m.secret
   pub link : m.state ≡ ConfirmedSch → ServesAsLink s m.means m.link
@@ -121,11 +131,15 @@ pub record KeepsPromises (s : Scheme) (m : Model) (h : History) : Type 0 where
 
 -- for every kind of suite, every fresh entity and every list of calls; so also of the entity that any call of a run is made to
 abbrev pub EveryRun : Type 0
-EveryRun = (s : Scheme) → IsLawful s → (m : Model) → IsFresh m → (calls : List Call) → AllByRecursion IsGivenBytes calls → KeepsPromises s (entity_after s m calls) (history s m calls)
+EveryRun =
+    (s : Scheme) → IsLawful s → (m : Model) → IsFresh m → (calls : List Call) →
+    AllByRecursion IsGivenBytes calls → KeepsPromises s (entity_after s m calls) (history s m calls)
 
 -- every link session of a run has a link key's value, while it runs and once it is over
 abbrev pub EverySession : Type 0
-EverySession = (s : Scheme) → IsLawful s → (m : Model) → IsFresh m → (calls : List Call) → AllByRecursion IsGivenBytes calls →
+EverySession =
+    (s : Scheme) → IsLawful s → (m : Model) → IsFresh m → (calls : List Call) →
+    AllByRecursion IsGivenBytes calls → 
     (n : ℕ) (since : History) → Runs n (history s m calls) since ⊎ HasEnded n (history s m calls) since →
     (value : List ℕ) × LinkSession s m calls n value since
 
@@ -134,7 +148,8 @@ EverySession = (s : Scheme) → IsLawful s → (m : Model) → IsFresh m → (ca
 -- what is asked of the two kinds of suite: the same first number, and payloads that open to the same
 pub record OpensAlike (s t : Scheme) : Type 0 where
   pub firsts : s.first ≡ t.first
-  pub opens : (k : Keyring) (value payload : List ℕ) (serial : ℕ) → IsFormed k → IsBytes16 value → IsBytes payload → s.open_of k serial value payload ≡ t.open_of k serial value payload
+  pub opens : (k : Keyring) (value payload : List ℕ) (serial : ℕ) → IsFormed k → IsBytes16 value →
+      IsBytes payload → s.open_of k serial value payload ≡ t.open_of k serial value payload
 
 -- so it is with suites of one kind
 abbrev pub KindsOpenAlike : Type 0
@@ -162,6 +177,7 @@ RecordsInOrder = (s t : Scheme) → IsLawful s → IsLawful t → OpensAlike s t
     (m m' : Model) → IsFresh m → IsFresh m' →
     (calls calls' : List Call) → AllByRecursion IsGivenBytes calls → AllByRecursion IsGivenBytes calls' →
     (value : List ℕ) (n n' : ℕ) (mine theirs : History) (one : LinkSession s m calls n value mine) (other : LinkSession t m' calls' n' value theirs) →
+        
     GetsOnlyCopies (encs_sent mine ++ encs_sent theirs) mine →
     Follows (data_handed mine) (data_sent theirs) (enc_numbers s (keyring_at one) n value (encs_sent mine)) (enc_numbers t (keyring_at other) n' value (encs_sent theirs))
 

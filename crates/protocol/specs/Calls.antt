@@ -122,7 +122,8 @@ admission m (message p) = cond (is_blocked m p) (Err no.DataHeld) (Ok (Ok p))
 
 -- the service of an ERROR
 abbrev pub error_service : Service → ℕ → State → Service
-error_service service sep state = cond (state_mark state == state_mark st.Idle) (cond (svc_bits sep == 1) Sch Sse) service
+error_service service sep state =
+    cond (state_mark state == state_mark st.Idle) (cond (svc_bits sep == 1) Sch Sse) service
 
 -- its payload
 abbrev pub error_payload : FaultCode → List ℕ

@@ -24,7 +24,8 @@ pub record IsCleared (m : Model) : Type 0 where
 
 -- the reply to a fault: an ERROR of some service, whose payload is the fault's letter, its digit and 00
 abbrev pub TellsFault : Fault → List ℕ → Type 0
-TellsFault f reply = (service : Service) × (reply ≡ frame_bytes service (error (error_payload (cause_code f.machine.cause))))
+TellsFault f reply =
+    (service : Service) × (reply ≡ frame_bytes service (error (error_payload (cause_code f.machine.cause))))
 
 -- a fault ends the session: the keys that it had are reported destroyed, and are live no more
 pub record EndsByFault (m : Model) (t : CallEffect) (o : Outcome) (f : Fault) : Type 0 where
@@ -32,7 +33,8 @@ pub record EndsByFault (m : Model) (t : CallEffect) (o : Outcome) (f : Fault) : 
   pub idle : t.model.state ≡ Idle
   pub cleared : IsCleared t.model
   pub destroyed : o.destroyed ≡ session_keys m
-  pub gone : IsFormed (keyring_of m.means) → (is_live t.model.means.live m.link ≡ false) × (is_live t.model.means.live m.secret ≡ false)
+  pub gone : IsFormed (keyring_of m.means) →
+      (is_live t.model.means.live m.link ≡ false) × (is_live t.model.means.live m.secret ≡ false)
   pub reply : TellsFault f t.reply
 
 -- how one call ends

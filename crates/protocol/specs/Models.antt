@@ -68,7 +68,17 @@ no_seed = replicate 16 0
 
 -- a new entity over a suite
 abbrev pub new_model : Meaning → Model
-new_model means = record { means = means; state = Idle; service = Sse; role = Sender; seed = no_seed; number = 0; held = []; secret = 0; link = 0 }
+new_model means = record {
+  means = means;
+  state = Idle;
+  service = Sse;
+  role = Sender;
+  seed = no_seed;
+  number = 0;
+  held = [];
+  secret = 0;
+  link = 0;
+}
 
 -- the suite without one key; nothing changes for the serial 0, which no key has
 abbrev pub without_key : Meaning → ℕ → Meaning

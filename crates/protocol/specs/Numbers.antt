@@ -78,4 +78,7 @@ cause_code WrongNumber = code_at 0x51 1 1
 
 -- the codec fault of a code, by its digit
 abbrev pub codec_fault_of : FaultCode → CodecFault
-codec_fault_of code = cond (code.digit == 0x31) RfuBit (cond (code.digit == 0x32) NoService (cond (code.digit == 0x33) NoMessage WrongFields))
+codec_fault_of code =
+    cond (code.digit == 0x31) RfuBit
+    (cond (code.digit == 0x32) NoService
+    (cond (code.digit == 0x33) NoMessage WrongFields))

@@ -39,7 +39,8 @@ pub record Effect (E : Type 0) : Type 0 where
 
 -- no fault, and no key destroyed
 abbrev pub ongoing_effect : {E : Type 0} → Model → Confirmation → ℕ → List ℕ → Effect E
-ongoing_effect m confirmation made reply = record { model = m; answer = Ok (ongoing_outcome confirmation (length reply) made); reply = reply }
+ongoing_effect m confirmation made reply =
+    record { model = m; answer = Ok (ongoing_outcome confirmation (length reply) made); reply = reply }
 
 -- Idle is entered
 abbrev pub idle_effect : {E : Type 0} → Model → Confirmation → List ℕ → Option Fault → Effect E
@@ -120,11 +121,13 @@ with_secret m value = record m { means = with_key m.means SharedSecret value; se
 
 -- the entity that takes part in a service as the Recipient
 abbrev pub as_recipient : Model → Service → List ℕ → Model
-as_recipient m service value = record (with_secret m value) { state = st.EstablishedRecipient; service = service; role = Recipient }
+as_recipient m service value =
+    record (with_secret m value) { state = st.EstablishedRecipient; service = service; role = Recipient }
 
 -- the Recipient's reply, once it has agreed
 abbrev pub offer_effect : Scheme → Model → List ℕ → Step
-offer_effect s m seed = ongoing_effect m conf.Nothing m.secret (frame_bytes m.service (act_res (s.offer_of (keyring_of m.means) seed)))
+offer_effect s m seed =
+    ongoing_effect m conf.Nothing m.secret (frame_bytes m.service (act_res (s.offer_of (keyring_of m.means) seed)))
 
 -- ACT_REQ in Idle (9.1)
 abbrev pub on_act_req : Scheme → Model → Service → ℕ → List ℕ → List ℕ → Step
@@ -208,7 +211,8 @@ sequence_check s m t =
 abbrev pub record_effect : Model → List ℕ → Result Bool Cause → Step
 record_effect m plain (Err cause) = fault_effect m cause
 record_effect m plain (Ok false) = ongoing_effect m conf.Dropped 0 []
-record_effect m plain (Ok true) = ongoing_effect (record m { number = m.number + 1; held = plain }) conf.DataAvailable 0 []
+record_effect m plain (Ok true) =
+    ongoing_effect (record m { number = m.number + 1; held = plain }) conf.DataAvailable 0 []
 
 -- ENC in Confirmed_SCH (9.3, 12.3)
 abbrev pub on_enc : Scheme → Model → List ℕ → Step

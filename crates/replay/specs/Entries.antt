@@ -48,7 +48,8 @@ direction_of Handed = was_handed
 -- the record of an entry, if it has one
 abbrev pub records_of : Option SessionRecord → List r.SessionRecord
 records_of None = []
-records_of (Some x) = record { session = x.session; direction = direction_of x.direction; plain = written_bytes x.plain } ∷ []
+records_of (Some x) =
+    record { session = x.session; direction = direction_of x.direction; plain = written_bytes x.plain } ∷ []
 
 -- the records that the entries tell, the oldest first
 abbrev pub transcript_records : List Entry → List r.SessionRecord

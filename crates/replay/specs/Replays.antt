@@ -34,7 +34,8 @@ pub record IsReplay (s : Scheme) (m : Model) (calls : List Call) (left : Model) 
 -- For two fresh entities over suites that open alike, the calls of a log to each and the entries told: of a link session of my calls and one
 -- of theirs, with one value of the two link keys, if mine got no ENC but copies of those sent in the two, the data that my entries tell as
 -- handed in my session follow those that their entries tell as sent in theirs.
-abbrev pub RecordsFollow : (s t : Scheme) (m m' : Model) (calls calls' : List Call) (entries entries' : List Entry) → Type 0
+abbrev pub RecordsFollow : (s t : Scheme) (m m' : Model) (calls calls' : List Call) (entries entries' : List Entry) →
+    Type 0
 RecordsFollow s t m m' calls calls' entries entries' =
     OpensAlike s t → IsFresh m → IsFresh m' → (value : List ℕ) (n n' : ℕ) (mine theirs : History) →
     (one : LinkSession s m (reverse calls) n value mine) (other : LinkSession t m' (reverse calls') n' value theirs) →

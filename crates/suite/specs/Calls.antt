@@ -54,7 +54,8 @@ value_or_unknown f (Some v) = f v
 
 -- the offer of a seed
 abbrev pub offer_result : Scheme → Meaning → List ℕ → ℕ → Result (List ℕ) Denial
-offer_result s m seed room = cond (is_wrong_seed seed || is_short_buffer room) (Err Unfit) (Ok (s.offer_of (keyring_of m) seed))
+offer_result s m seed room =
+    cond (is_wrong_seed seed || is_short_buffer room) (Err Unfit) (Ok (s.offer_of (keyring_of m) seed))
 
 -- the value of the shared secret
 abbrev pub agree_result : Scheme → Meaning → List ℕ → List ℕ → ℕ → Result (List ℕ) Denial

@@ -68,23 +68,38 @@ pub record IsLawful (s : Scheme) : Type 0 where
   pub first_below : s.first < s.final
   pub final_bound : s.final ≤ MAX_NUMBER
   -- lengths, and that bytes are bytes
-  pub offer_long : (k : Keyring) (seed : List ℕ) → IsFormed k → IsBytes16 seed → length (s.offer_of k seed) ≡ s.offer_length
+  pub offer_long : (k : Keyring) (seed : List ℕ) → IsFormed k → IsBytes16 seed →
+      length (s.offer_of k seed) ≡ s.offer_length
   pub offer_bytes : (k : Keyring) (seed : List ℕ) → IsFormed k → IsBytes16 seed → IsBytes (s.offer_of k seed)
-  pub secret_is : (k : Keyring) (seed offer : List ℕ) (role : ℕ) → IsFormed k → IsBytes16 seed → IsBytes offer → is_role role ≡ true → s.fit_of k offer ≡ true → IsBytes16 (s.secret_of k role seed offer)
-  pub check_long : (k : Keyring) (value : List ℕ) (serial role : ℕ) → IsFormed k → IsBytes16 value → is_role role ≡ true → length (s.check_of k serial value role) ≡ s.check_length
-  pub check_bytes : (k : Keyring) (value : List ℕ) (serial role : ℕ) → IsFormed k → IsBytes16 value → is_role role ≡ true → IsBytes (s.check_of k serial value role)
-  pub link_is : (k : Keyring) (value : List ℕ) (serial : ℕ) → IsFormed k → IsBytes16 value → IsBytes16 (s.link_of k serial value)
-  pub seal_bytes : (k : Keyring) (value plain : List ℕ) (serial role n : ℕ) → IsFormed k → IsBytes16 value → is_role role ≡ true → IsSealable s n plain → IsBytes (s.seal_of k serial value role n plain)
+  pub secret_is : (k : Keyring) (seed offer : List ℕ) (role : ℕ) → IsFormed k → IsBytes16 seed → IsBytes offer →
+      is_role role ≡ true → s.fit_of k offer ≡ true → IsBytes16 (s.secret_of k role seed offer)
+  pub check_long : (k : Keyring) (value : List ℕ) (serial role : ℕ) → IsFormed k → IsBytes16 value →
+      is_role role ≡ true → length (s.check_of k serial value role) ≡ s.check_length
+  pub check_bytes : (k : Keyring) (value : List ℕ) (serial role : ℕ) → IsFormed k → IsBytes16 value →
+      is_role role ≡ true → IsBytes (s.check_of k serial value role)
+  pub link_is : (k : Keyring) (value : List ℕ) (serial : ℕ) → IsFormed k → IsBytes16 value →
+      IsBytes16 (s.link_of k serial value)
+  pub seal_bytes : (k : Keyring) (value plain : List ℕ) (serial role n : ℕ) → IsFormed k → IsBytes16 value →
+      is_role role ≡ true → IsSealable s n plain → IsBytes (s.seal_of k serial value role n plain)
   -- under one root each written offer is fit, and the two peers' agreements on each other's offers give equal values
-  pub fits : (root : List ℕ) (k k' : Keyring) (seed : List ℕ) → IsUnder root k → IsUnder root k' → IsBytes16 seed → s.fit_of k' (s.offer_of k seed) ≡ true
-  pub agrees : (root : List ℕ) (k k' j j' : Keyring) (one other : List ℕ) → IsUnder root k → IsUnder root k' → IsUnder root j → IsUnder root j' → IsBytes16 one → IsBytes16 other → s.secret_of k (role_byte Sender) one (s.offer_of j' other) ≡ s.secret_of k' (role_byte Recipient) other (s.offer_of j one)
+  pub fits : (root : List ℕ) (k k' : Keyring) (seed : List ℕ) → IsUnder root k → IsUnder root k' →
+      IsBytes16 seed → s.fit_of k' (s.offer_of k seed) ≡ true
+  pub agrees : (root : List ℕ) (k k' j j' : Keyring) (one other : List ℕ) → IsUnder root k → IsUnder root k' →
+      IsUnder root j → IsUnder root j' → IsBytes16 one → IsBytes16 other →
+      s.secret_of k (role_byte Sender) one (s.offer_of j' other) ≡ s.secret_of k' (role_byte Recipient) other (s.offer_of j one)
   -- opening under an equal value gives back what was sealed, whatever else the two suites mean and whatever the two serials
-  pub opens : (k k' : Keyring) (value plain : List ℕ) (serial serial' role n : ℕ) → IsFormed k → IsFormed k' → IsBytes16 value → is_role role ≡ true → IsSealable s n plain → s.open_of k' serial' value (s.seal_of k serial value role n plain) ≡ Some (role, n, plain)
+  pub opens : (k k' : Keyring) (value plain : List ℕ) (serial serial' role n : ℕ) → IsFormed k → IsFormed k' →
+      IsBytes16 value → is_role role ≡ true → IsSealable s n plain →
+      s.open_of k' serial' value (s.seal_of k serial value role n plain) ≡ Some (role, n, plain)
   -- a payload is as long as its data and the overhead, whatever data and number
-  pub seal_long : (k : Keyring) (value plain : List ℕ) (serial role n : ℕ) → IsFormed k → IsBytes16 value → is_role role ≡ true → length (s.seal_of k serial value role n plain) ≡ length plain + s.overhead
+  pub seal_long : (k : Keyring) (value plain : List ℕ) (serial role n : ℕ) → IsFormed k → IsBytes16 value →
+      is_role role ≡ true → length (s.seal_of k serial value role n plain) ≡ length plain + s.overhead
 
 -- Two suites are of one kind where first number, seal and open mean the same: seal, of what both can seal.
 pub record IsOneKind (s t : Scheme) : Type 0 where
   pub firsts : s.first ≡ t.first
-  pub seals : (k : Keyring) (value plain : List ℕ) (serial role n : ℕ) → IsFormed k → IsBytes16 value → is_role role ≡ true → IsSealable s n plain → IsSealable t n plain → s.seal_of k serial value role n plain ≡ t.seal_of k serial value role n plain
-  pub opens : (k : Keyring) (value payload : List ℕ) (serial : ℕ) → IsFormed k → IsBytes16 value → IsBytes payload → s.open_of k serial value payload ≡ t.open_of k serial value payload
+  pub seals : (k : Keyring) (value plain : List ℕ) (serial role n : ℕ) → IsFormed k → IsBytes16 value →
+      is_role role ≡ true → IsSealable s n plain → IsSealable t n plain →
+      s.seal_of k serial value role n plain ≡ t.seal_of k serial value role n plain
+  pub opens : (k : Keyring) (value payload : List ℕ) (serial : ℕ) → IsFormed k → IsBytes16 value →
+      IsBytes payload → s.open_of k serial value payload ≡ t.open_of k serial value payload

@@ -51,10 +51,14 @@ pub record IsLawfulKind (k : KindFunctions) : Type 0 where
   pub field_bound : k.field_length ≤ 16
   pub final_low : 0 < k.final
   pub final_bound : k.final ≤ MAX_NUMBER
-  pub secret_is : (root seed offer : List ℕ) (role : ℕ) → IsBytes16 root → IsBytes16 seed → IsBytes16 offer → is_role role ≡ true → IsBytes16 (k.secret_of root role seed offer)
-  pub agrees : (root one other : List ℕ) → IsBytes16 root → IsBytes16 one → IsBytes16 other → k.secret_of root (role_byte Sender) one other ≡ k.secret_of root (role_byte Recipient) other one
-  pub check_long : (value : List ℕ) (role : ℕ) → IsBytes16 value → is_role role ≡ true → length (k.check_of value role) ≡ k.check_length
-  pub check_bytes : (value : List ℕ) (role : ℕ) → IsBytes16 value → is_role role ≡ true → IsBytes (k.check_of value role)
+  pub secret_is : (root seed offer : List ℕ) (role : ℕ) → IsBytes16 root → IsBytes16 seed → IsBytes16 offer →
+      is_role role ≡ true → IsBytes16 (k.secret_of root role seed offer)
+  pub agrees : (root one other : List ℕ) → IsBytes16 root → IsBytes16 one → IsBytes16 other →
+      k.secret_of root (role_byte Sender) one other ≡ k.secret_of root (role_byte Recipient) other one
+  pub check_long : (value : List ℕ) (role : ℕ) → IsBytes16 value → is_role role ≡ true →
+      length (k.check_of value role) ≡ k.check_length
+  pub check_bytes : (value : List ℕ) (role : ℕ) → IsBytes16 value → is_role role ≡ true →
+      IsBytes (k.check_of value role)
   pub link_is : (value : List ℕ) → IsBytes16 value → IsBytes16 (k.link_of value)
   pub stream_byte : (value : List ℕ) (role n i : ℕ) → IsBytes16 value → k.stream_of value role n i < 256
   pub field_long : (value body : List ℕ) → IsBytes16 value → length (k.field_of value body) ≡ k.field_length

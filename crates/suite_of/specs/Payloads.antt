@@ -31,7 +31,8 @@ last_bytes w p = drop (length p - w) p
 
 -- a payload is good if it has room for role, number and field, begins with a role and ends with its field
 abbrev pub is_good : ℕ → (List ℕ → List ℕ) → List ℕ → Bool
-is_good w field p = nat_le (5 + w) (length p) && is_role (slice_index p 0) && bytes_eq (last_bytes w p) (field (all_but_last w p))
+is_good w field p =
+    nat_le (5 + w) (length p) && is_role (slice_index p 0) && bytes_eq (last_bytes w p) (field (all_but_last w p))
 
 -- role, number and the data as they stand in a payload; none if it is not good
 abbrev pub masked_parts : ℕ → (List ℕ → List ℕ) → List ℕ → Option (ℕ × ℕ × List ℕ)
@@ -39,4 +40,5 @@ masked_parts w field p = cond (is_good w field p) (Some (slice_index p 0, number
 
 -- what is read of a payload: role, number and the data XOR the stream of that role and number; none if it is not good
 abbrev pub payload_parts : ℕ → (List ℕ → List ℕ) → (ℕ → ℕ → ℕ → ℕ) → List ℕ → Option (ℕ × ℕ × List ℕ)
-payload_parts w field stream p = option_map (λ t. (t.0, t.1, xor_stream (stream t.0 t.1) 0 t.2)) (masked_parts w field p)
+payload_parts w field stream p =
+    option_map (λ t. (t.0, t.1, xor_stream (stream t.0 t.1) 0 t.2)) (masked_parts w field p)
