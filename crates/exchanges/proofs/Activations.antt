@@ -23,7 +23,7 @@ use Rattle.exchanges.specs.Exchanges.{DependsOnRootAndValue, KindsDependOnRootAn
 use Rattle.exchanges.proofs.Shapes.{bare, agreed_suite, Base, base_of, bare_under, agreed_under, linked_in, one_gone, both_gone, selecting, sharing, linking, Clears}
 use Rattle.exchanges.proofs.Turns.{stepped, ask_is, reply_is, check_is, confirm_sse, confirm_sch, complete_sse, complete_sch, tell_is}
 use Rattle.exchanges.proofs.Joints.{Joint, new_joint, joined}
-use Rattle.exchanges.proofs.Records.{run_called, run_hears}
+use Rattle.exchanges.proofs.Records.{run_called, run_receives}
 
 -- An activation, by what each of its five calls does.
 module _ (s : Scheme) (v : Service) (x : SetUp) where
@@ -35,8 +35,8 @@ module _ (s : Scheme) (v : Service) (x : SetUp) where
   invoking = invoke v s.pid x.seed (x.my_supply.room 0)
 
   -- the two after five such turns
-  abbrev duo : CallEffect → CallEffect → CallEffect → CallEffect → CallEffect → Peers
-  duo t1 t2 t3 t4 t5 = record {
+  abbrev peers_of : CallEffect → CallEffect → CallEffect → CallEffect → CallEffect → Peers
+  peers_of t1 t2 t3 t4 t5 = record {
     one = record {
       model = t5.model;
       past = entry_of (heard x.my_supply 2 t4) t5 ∷ entry_of (heard x.my_supply 1 t2) t3 ∷ entry_of invoking t1 ∷ [];
@@ -56,17 +56,17 @@ module _ (s : Scheme) (v : Service) (x : SetUp) where
       → call_effect s t1.model (heard x.my_supply 1 t2) ≡ t3
       → call_effect s t2.model (heard x.their_supply 1 t3) ≡ t4
       → call_effect s t3.model (heard x.my_supply 2 t4) ≡ t5
-      → Q (duo t1 t2 t3 t4 t5) → Q (activated_peers s v x)
+      → Q (peers_of t1 t2 t3 t4 t5) → Q (activated_peers s v x)
   five Q t1 t2 t3 t4 t5 e1 e2 e3 e4 e5 end =
       let h2 : CallEffect → CallEffect = λ a. call_effect s (new_model x.theirs) (heard x.their_supply 0 a) in
       let h3 : CallEffect → CallEffect → CallEffect = λ a b. call_effect s a.model (heard x.my_supply 1 b) in
       let h4 : CallEffect → CallEffect → CallEffect = λ b c. call_effect s b.model (heard x.their_supply 1 c) in
       let h5 : CallEffect → CallEffect → CallEffect = λ c d. call_effect s c.model (heard x.my_supply 2 d) in
-      subst (λ a. let b = h2 a in let c = h3 a b in let d = h4 b c in Q (duo a b c d (h5 c d))) (sym e1)
-      (subst (λ b. let c = h3 t1 b in let d = h4 b c in Q (duo t1 b c d (h5 c d))) (sym e2)
-      (subst (λ c. let d = h4 t2 c in Q (duo t1 t2 c d (h5 c d))) (sym e3)
-      (subst (λ d. Q (duo t1 t2 t3 d (h5 t3 d))) (sym e4)
-      (subst (λ e. Q (duo t1 t2 t3 t4 e)) (sym e5) end))))
+      subst (λ a. let b = h2 a in let c = h3 a b in let d = h4 b c in Q (peers_of a b c d (h5 c d))) (sym e1)
+      (subst (λ b. let c = h3 t1 b in let d = h4 b c in Q (peers_of t1 b c d (h5 c d))) (sym e2)
+      (subst (λ c. let d = h4 t2 c in Q (peers_of t1 t2 c d (h5 c d))) (sym e3)
+      (subst (λ d. Q (peers_of t1 t2 t3 d (h5 t3 d))) (sym e4)
+      (subst (λ e. Q (peers_of t1 t2 t3 t4 e)) (sym e5) end))))
 
 -- the calls of a history were given bytes
 abbrev Given : History → Type 0
@@ -215,17 +215,17 @@ module _ (s : Scheme) (law : IsLawful s) (free : DependsOnRootAndValue s) (root 
 
   -- the first three calls
 
-  abbrev said_act_req : Service → List ℕ
-  said_act_req v = frame_bytes v (act_req s.pid offer)
+  abbrev contents_act_req : Service → List ℕ
+  contents_act_req v = frame_bytes v (act_req s.pid offer)
 
-  abbrev said_act_res : Service → List ℕ
-  said_act_res v = frame_bytes v (act_res reply)
+  abbrev contents_act_res : Service → List ℕ
+  contents_act_res v = frame_bytes v (act_res reply)
 
   abbrev turn1 : Service → CallEffect
-  turn1 v = stepped (selecting (bare root last n) v seed) conf.Nothing 0 (said_act_req v)
+  turn1 v = stepped (selecting (bare root last n) v seed) conf.Nothing 0 (contents_act_req v)
 
   abbrev turn2 : Service → CallEffect
-  turn2 v = stepped (their_sharing EstablishedRecipient v) conf.Nothing (n' + 1) (said_act_res v)
+  turn2 v = stepped (their_sharing EstablishedRecipient v) conf.Nothing (n' + 1) (contents_act_res v)
 
   abbrev turn3 : Service → CallEffect
   turn3 v = stepped (mine_sharing EstablishedSender v) conf.Nothing (n + 1) (frame_bytes v (vfy_req asked))
@@ -233,13 +233,13 @@ module _ (s : Scheme) (law : IsLawful s) (free : DependsOnRootAndValue s) (root 
   first : (v : Service) → call_effect s (new_model (bare root last n)) (invoke v s.pid seed (u.room 0)) ≡ turn1 v
   first v = ask_is s root last n (u.room 0) (wide u 0) v seed (sixteen seed_is)
 
-  second : (v : Service) → n' < last' → call_effect s (new_model (bare root last' n')) (frame (said_act_req v) (u'.beside 0) (u'.room 0)) ≡ turn2 v
+  second : (v : Service) → n' < last' → call_effect s (new_model (bare root last' n')) (frame (contents_act_req v) (u'.beside 0) (u'.room 0)) ≡ turn2 v
   second v h =
       let most = offer_most mine_bare seed mine_first seed_is in
       let short = fits v (act_req s.pid offer) (omega arith) in
       reply_is s root last' n' (u'.room 0) (wide u' 0) v offer (u'.beside 0) (sixteen answering_is) short offer_fits (left n' last' h)
 
-  third : (v : Service) → n < last → call_effect s (selecting (bare root last n) v seed) (frame (said_act_res v) (u.beside 1) (u.room 1)) ≡ turn3 v
+  third : (v : Service) → n < last → call_effect s (selecting (bare root last n) v seed) (frame (contents_act_res v) (u.beside 1) (u.room 1)) ≡ turn3 v
   third v h =
       let most = offer_most their_ring answering their_under answering_is in
       let short = fits v (act_res reply) (omega arith) in
@@ -394,15 +394,15 @@ new_run s means supply = record { bytes = tt; model = refl; past = refl }
 
 pub mine_activated : (s : Scheme) (x : SetUp) → Started s (activated_peers s Sch x) → IsRun s x.mine (vfy_res_received s Sch x)
 mine_activated s x start =
-    run_hears s x.mine (vfy_res_sent s Sch x) start.mine_given.0.0
-    (run_hears s x.mine (act_res_sent s Sch x) start.mine_given.1.0.0
+    run_receives s x.mine (vfy_res_sent s Sch x) start.mine_given.0.0
+    (run_receives s x.mine (act_res_sent s Sch x) start.mine_given.1.0.0
     (run_called s x.mine (invoke Sch s.pid x.seed (x.my_supply.room 0)) start.mine_given.1.1.0
     (new_run s x.mine x.my_supply)))
 
 pub theirs_activated : (s : Scheme) (x : SetUp) → Started s (activated_peers s Sch x) → IsRun s x.theirs (vfy_res_sent s Sch x)
 theirs_activated s x start =
-    run_hears s x.theirs (vfy_req_sent s Sch x) start.their_given.0.0
-    (run_hears s x.theirs (act_req_sent s Sch x) start.their_given.1.0.0
+    run_receives s x.theirs (vfy_req_sent s Sch x) start.their_given.0.0
+    (run_receives s x.theirs (act_req_sent s Sch x) start.their_given.1.0.0
     (new_run s x.theirs x.their_supply))
 
 pub link_succeeds : LinkSucceeds

@@ -12,24 +12,24 @@ use Rattle.histories.specs.Histories.{entry_of}
 use Rattle.exchanges.specs.Peers.{Peers, next_beside, next_room, SetUp, swapped_peers, activated_peers, Transfer, after_transfers, data_from_one, data_from_other, terminated_peers}
 use Rattle.exchanges.specs.Exchanges.{IsReady, IsConfirmed, AllRecordData, TransfersSucceed, IsTerminated, TerminationSucceeds, HasNoKeyLeft, EndsWell, LinkEnds, SecretEnds}
 use Rattle.exchanges.proofs.Shapes.{Clears}
-use Rattle.exchanges.proofs.Turns.{part_is, parted_is}
+use Rattle.exchanges.proofs.Turns.{terminate_is, tmn_is}
 use Rattle.exchanges.proofs.Joints.{joined}
-use Rattle.exchanges.proofs.Records.{hearing, SameKeys, Goes, talk_goes}
+use Rattle.exchanges.proofs.Records.{hearing, SameKeys, Goes, transfers_go}
 use Rattle.exchanges.proofs.Activations.{Started, link_starts, secret_told, mine_activated, theirs_activated}
 
 -- A talk after an activation.
 
 -- what it does
-talk_of_new : (s : Scheme) → IsLawful s → (x : SetUp) → IsReady Sch x → (start : Started s (activated_peers s Sch x)) → (transfers : List Transfer) → AllRecordData transfers
+transfers_of_new : (s : Scheme) → IsLawful s → (x : SetUp) → IsReady Sch x → (start : Started s (activated_peers s Sch x)) → (transfers : List Transfer) → AllRecordData transfers
     → s.first + length transfers ≤ s.final → Goes s start.value (s.first + length transfers) (activated_peers s Sch x) transfers (after_transfers s (activated_peers s Sch x) transfers)
-talk_of_new s law x r start transfers fit most =
+transfers_of_new s law x r start transfers fit most =
     let low : s.first ≤ s.first = omega arith in
-    talk_goes s law start.value s.first (activated_peers s Sch x) low start.matched transfers fit most
+    transfers_go s law start.value s.first (activated_peers s Sch x) low start.matched transfers fit most
 
-pub talk_succeeds : TransfersSucceed
-talk_succeeds s law free x r transfers fit most =
+pub transfers_succeed : TransfersSucceed
+transfers_succeed s law free x r transfers fit most =
     let start = link_starts s law free x r in
-    let g = talk_of_new s law x r start transfers fit most in
+    let g = transfers_of_new s law x r start transfers fit most in
     record {
       sent_here = g.over.sent_here ∙ ap (λ z. z ++ data_from_one transfers) start.none_sent.0;
       handed_there = g.over.handed_there ∙ ap (λ z. z ++ data_from_one transfers) start.none_handed.1;
@@ -61,12 +61,12 @@ module _ (s : Scheme) (v : Service) (d : Peers) (mine : IsConfirmed v d.one.mode
   terminating = terminate (next_room d.one)
 
   first : call_effect s d.one.model terminating ≡ ends
-  first = part_is s d.one.model (next_room d.one) (d.one.supply.rooms (length d.one.past)) v mine
+  first = terminate_is s d.one.model (next_room d.one) (d.one.supply.rooms (length d.one.past)) v mine
 
   second : call_effect s d.other.model (hearing d.other ends.reply) ≡ ends'
   second =
       let k = length d.other.past in
-      parted_is s d.other.model (next_room d.other) (d.other.supply.rooms k) v (next_beside d.other) theirs (d.other.supply.seeds k)
+      tmn_is s d.other.model (next_room d.other) (d.other.supply.rooms k) v (next_beside d.other) theirs (d.other.supply.seeds k)
 
   -- the two after these calls
   abbrev after_calls : CallEffect → CallEffect → Peers
@@ -86,8 +86,8 @@ module _ (s : Scheme) (v : Service) (d : Peers) (mine : IsConfirmed v d.one.mode
       subst (λ z. LeftIdle d (after_calls z (hear z))) (sym first)
       (subst (λ z. LeftIdle d (after_calls ends z)) (sym second) ended_by)
 
-pub parting_succeeds : TerminationSucceeds
-parting_succeeds s v d mine theirs = (left_idle s v d mine theirs).terminated
+pub termination_succeeds : TerminationSucceeds
+termination_succeeds s v d mine theirs = (left_idle s v d mine theirs).terminated
 
 -- with the same keys no key is left either
 clear_after : {m m' : Model} → SameKeys m m' → Clears m → Clears m'
@@ -113,7 +113,7 @@ ends_well s v d mine theirs mine_clear their_clear =
 pub link_ends : LinkEnds
 link_ends s law free x r transfers fit most =
     let start = link_starts s law free x r in
-    let g = talk_of_new s law x r start transfers fit most in
+    let g = transfers_of_new s law x r start transfers fit most in
     let M = g.matched in
     ends_well s Sch (after_transfers s (activated_peers s Sch x) transfers) M.mine.confirmed M.theirs.confirmed
     (clear_after g.mine_keys start.mine_clear) (clear_after g.their_keys start.their_clear)

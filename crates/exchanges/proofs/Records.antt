@@ -47,9 +47,9 @@ abbrev pub hearing : Peer → List ℕ → Call
 hearing to bytes = frame bytes (next_beside to) (next_room to)
 
 -- so that it stays a run
-pub run_hears : (s : Scheme) (means : Meaning) {to : Peer} (from : Peer) → IsBytes (last_written from.past) → IsRun s means to
+pub run_receives : (s : Scheme) (means : Meaning) {to : Peer} (from : Peer) → IsBytes (last_written from.past) → IsRun s means to
     → IsRun s means (after_frame s to from)
-run_hears s means {to} from b r = run_called s means (hearing to (last_written from.past)) (b, (to.supply.seeds (length to.past)).bytes) r
+run_receives s means {to} from b r = run_called s means (hearing to (last_written from.past)) (b, (to.supply.seeds (length to.past)).bytes) r
 
 -- One record.
 
@@ -339,9 +339,9 @@ at_number {s} {value} {d} {e} {transfers} same g = subst (λ z. Goes s value z d
 
 module _ (s : Scheme) (law : IsLawful s) (value : List ℕ) where
   -- one record of the one
-  line_goes : (number : ℕ) (d : Peers) (plain : List ℕ) → IsMatched value number d → IsRecordData plain → s.first ≤ number → number < s.final
+  transfer_goes : (number : ℕ) (d : Peers) (plain : List ℕ) → IsMatched value number d → IsRecordData plain → s.first ≤ number → number < s.final
       → Goes s value (number + 1) d (from_one plain ∷ []) (after_transfer s d plain)
-  line_goes number d plain M fit low below =
+  transfer_goes number d plain M fit low below =
       let p = pass s law value number d M plain fit low below in
       record {
         matched = p.matched;
@@ -352,25 +352,25 @@ module _ (s : Scheme) (law : IsLawful s) (value : List ℕ) where
         mine_run = λ means r. run_called s means (send plain (next_room d.one)) fit.bytes r;
         their_run = λ means r.
             let from = after_send s d.one plain in
-            run_called s means (retrieve_data (next_out (after_frame s d.other from))) tt (run_hears s means from p.bytes r);
+            run_called s means (retrieve_data (next_out (after_frame s d.other from))) tt (run_receives s means from p.bytes r);
       }
 
   -- any records, as far as the numbers reach
-  pub talk_goes : (number : ℕ) (d : Peers) → s.first ≤ number → IsMatched value number d → (transfers : List Transfer) → AllRecordData transfers
+  pub transfers_go : (number : ℕ) (d : Peers) → s.first ≤ number → IsMatched value number d → (transfers : List Transfer) → AllRecordData transfers
       → number + length transfers ≤ s.final → Goes s value (number + length transfers) d transfers (after_transfers s d transfers)
-  talk_goes number d low M [] fit most = at_number (omega arith) (none_said s value number d M)
-  talk_goes number d low M (from_one plain ∷ later) fit most =
-      let g = line_goes number d plain M fit.0 (omega arith) (omega arith) in
-      let h = talk_goes (number + 1) (after_transfer s d plain) (omega arith) g.matched later fit.1 (omega arith) in
+  transfers_go number d low M [] fit most = at_number (omega arith) (none_said s value number d M)
+  transfers_go number d low M (from_one plain ∷ later) fit most =
+      let g = transfer_goes number d plain M fit.0 (omega arith) (omega arith) in
+      let h = transfers_go (number + 1) (after_transfer s d plain) (omega arith) g.matched later fit.1 (omega arith) in
       at_number (omega arith) (joined (from_one plain) later g h)
-  talk_goes number d low M (from_other plain ∷ later) fit most =
-      let g = turn_goes plain (line_goes number (swapped_peers d) plain (turn_matched value number d M) fit.0 (omega arith) (omega arith)) in
-      let h = talk_goes (number + 1) (swapped_peers (after_transfer s (swapped_peers d) plain)) (omega arith) g.matched later fit.1 (omega arith) in
+  transfers_go number d low M (from_other plain ∷ later) fit most =
+      let g = turn_goes plain (transfer_goes number (swapped_peers d) plain (turn_matched value number d M) fit.0 (omega arith) (omega arith)) in
+      let h = transfers_go (number + 1) (swapped_peers (after_transfer s (swapped_peers d) plain)) (omega arith) g.matched later fit.1 (omega arith) in
       at_number (omega arith) (joined (from_other plain) later g h)
 
 pub records_pass : RecordsPass
 records_pass s law value number d low M transfers fit most =
-    let g = talk_goes s law value number d low M transfers fit most in
+    let g = transfers_go s law value number d low M transfers fit most in
     (g.matched, g.over)
 
 pub record_passes : RecordPasses

@@ -199,19 +199,19 @@ module _ (s : Scheme) (m : Model) (room : ℕ) (enough : MAX_FRAME ≤ room) whe
   wide = room_enough room enough
 
   -- TERMINATE
-  pub part_is : (v : Service) → IsConfirmed v m → call_effect s m (terminate room) ≡ idle_effect m conf.Terminated (frame_bytes v (tmn [])) None
-  part_is Sse c = let state = c.state in let service = c.service in rw (wide, state, service)
-  part_is Sch c = let state = c.state in let service = c.service in rw (wide, state, service)
+  pub terminate_is : (v : Service) → IsConfirmed v m → call_effect s m (terminate room) ≡ idle_effect m conf.Terminated (frame_bytes v (tmn [])) None
+  terminate_is Sse c = let state = c.state in let service = c.service in rw (wide, state, service)
+  terminate_is Sch c = let state = c.state in let service = c.service in rw (wide, state, service)
 
   -- TMN
-  pub parted_is : (v : Service) (beside : Ancillary) → IsConfirmed v m → IsBytes16 beside.seed
+  pub tmn_is : (v : Service) (beside : Ancillary) → IsConfirmed v m → IsBytes16 beside.seed
       → call_effect s m (frame (frame_bytes v (tmn [])) beside room) ≡ idle_effect m conf.Terminated [] None
-  parted_is Sse beside c h =
+  tmn_is Sse beside c h =
       let long = eq-eqb (length beside.seed) 16 h.long in
       let state = c.state in
       let service = c.service in
       rw (wide, long, state, service)
-  parted_is Sch beside c h =
+  tmn_is Sch beside c h =
       let long = eq-eqb (length beside.seed) 16 h.long in
       let state = c.state in
       let service = c.service in

@@ -2,7 +2,7 @@
 use Rattle.exchanges.specs.Exchanges.{ExchangePromises}
 use Rattle.exchanges.proofs.Activations.{kinds_fit, new_fresh, some_ready, link_succeeds, secret_succeeds}
 use Rattle.exchanges.proofs.Records.{record_passes, records_pass}
-use Rattle.exchanges.proofs.Ends.{talk_succeeds, parting_succeeds, link_ends, secret_ends}
+use Rattle.exchanges.proofs.Ends.{transfers_succeed, termination_succeeds, link_ends, secret_ends}
 
 pub undisturbed_succeeds : ExchangePromises
 undisturbed_succeeds = record {
@@ -13,8 +13,8 @@ undisturbed_succeeds = record {
   secrets = secret_succeeds;
   record_passes = record_passes;
   records_pass = records_pass;
-  talks = talk_succeeds;
-  partings = parting_succeeds;
+  talks = transfers_succeed;
+  partings = termination_succeeds;
   link_ends = link_ends;
   secret_ends = secret_ends;
 }

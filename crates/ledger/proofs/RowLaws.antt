@@ -97,10 +97,10 @@ true-rows_with_mark : (n d : ℕ) (rows : List Row) (ks : List Key) → HasDisti
 true-rows_with_mark n d [] ks a f h = tt
 true-rows_with_mark n d (r ∷ rows) ks a f h = grind (arith, common_steps, gone ks d, says-keys_without r.mark ks d r.kind r.serial, true_later (n + 1) d rows ks, true-rows_with_mark (n + 1) d rows ks)
 
-struck_told : (m : Meaning) (key : ℕ) (rows : List Row) → HasDistinctSerials m.live → TellsKeys m rows → TellsKeys (after_destroy m key) (rows_after_destroying key (destroy_result m key) rows)
-struck_told m key rows a t =
+mark_told : (m : Meaning) (key : ℕ) (rows : List Row) → HasDistinctSerials m.live → TellsKeys m rows → TellsKeys (after_destroy m key) (rows_after_destroying key (destroy_result m key) rows)
+mark_told m key rows a t =
     let first = m.newest - length rows + 1 in
     grind (arith, common_steps, t.count, t.order, t.marks, length-rows_with_mark key rows, follow-rows_with_mark first key rows, true-rows_with_mark first key rows m.live a, unfound m.live key)
 
-pub struck_kept : (m m' : Meaning) (key : ℕ) (r : Result (Unit {0}) Denial) (rows rows' : List Row) → HasDistinctSerials m.live → r ≡ destroy_result m key → m' ≡ after_destroy m key → rows' ≡ rows_after_destroying key r rows → TellsKeys m rows → TellsKeys m' rows'
-struck_kept m m' key r rows rows' w a f e t = rw (f, e, a) (struck_told m key rows w t)
+pub mark_kept : (m m' : Meaning) (key : ℕ) (r : Result (Unit {0}) Denial) (rows rows' : List Row) → HasDistinctSerials m.live → r ≡ destroy_result m key → m' ≡ after_destroy m key → rows' ≡ rows_after_destroying key r rows → TellsKeys m rows → TellsKeys m' rows'
+mark_kept m m' key r rows rows' w a f e t = rw (f, e, a) (mark_told m key rows w t)

@@ -22,16 +22,16 @@ pub member_append : (x : ℕ) (a b : List ℕ) → is_member x (a ++ b) ≡ (is_
 member_append x [] b = refl
 member_append x (y ∷ a) b = ap (λ z. eqb x y || z) (member_append x a b) ∙ sym (or_assoc (eqb x y) (is_member x a) (is_member x b))
 
-less_append : (a b g : List ℕ) → difference (a ++ b) g ≡ difference a g ++ difference b g
-less_append [] b g = refl
-less_append (x ∷ a) b g =
-    let ih = less_append a b g in
+difference_append : (a b g : List ℕ) → difference (a ++ b) g ≡ difference a g ++ difference b g
+difference_append [] b g = refl
+difference_append (x ∷ a) b g =
+    let ih = difference_append a b g in
     elim (is_member x g) as (λ t. cond t (difference (a ++ b) g) (x ∷ difference (a ++ b) g) ≡ cond t (difference a g) (x ∷ difference a g) ++ difference b g) [ true ↦ ih | false ↦ ap (λ z. x ∷ z) ih ]
 
-less_less : (a g k : List ℕ) → difference a (g ++ k) ≡ difference (difference a g) k
-less_less [] g k = refl
-less_less (x ∷ a) g k =
-    let ih = less_less a g k in
+difference_difference : (a g k : List ℕ) → difference a (g ++ k) ≡ difference (difference a g) k
+difference_difference [] g k = refl
+difference_difference (x ∷ a) g k =
+    let ih = difference_difference a g k in
     let e : cond (is_member x (g ++ k)) (difference a (g ++ k)) (x ∷ difference a (g ++ k)) ≡ cond (is_member x g || is_member x k) (difference (difference a g) k) (x ∷ difference (difference a g) k) = rw (member_append x g k, ih) in
     e ∙ elim (is_member x g) as (λ t. cond (t || is_member x k) (difference (difference a g) k) (x ∷ difference (difference a g) k) ≡ difference (cond t (difference a g) (x ∷ difference a g)) k) [ true ↦ refl | false ↦ refl ]
 
@@ -72,9 +72,9 @@ within_more : (a m k : List ℕ) → Within a m → Within a (m ++ k)
 within_more [] m k p = tt
 within_more (x ∷ a) m k p = (member_append x m k ∙ or_left (is_member x m) (is_member x k) p.0, within_more a m k p.1)
 
-pub within_less : (a m : List ℕ) → Within a m → difference a m ≡ []
-within_less [] m p = refl
-within_less (x ∷ a) m p = cond-true (is_member x m) (difference a m) (x ∷ difference a m) p.0 ∙ within_less a m p.1
+pub within_difference : (a m : List ℕ) → Within a m → difference a m ≡ []
+within_difference [] m p = refl
+within_difference (x ∷ a) m p = cond-true (is_member x m) (difference a m) (x ∷ difference a m) p.0 ∙ within_difference a m p.1
 
 -- what is left of a stands in a, and not in g
 left : (x : ℕ) (a g : List ℕ) → is_member x (difference a g) ≡ true → (is_member x a ≡ true) × (is_member x g ≡ false)
@@ -111,7 +111,7 @@ books_made n live made gone b =
     let le : n ≤ n + 1 = omega arith in
     let self : n + 1 ≤ n + 1 = omega arith in
     let new : is_member (n + 1) gone ≡ false = above_none n (n + 1) gone lt (gone_up_to n gone made b.real b.up_to) in
-    let left : difference (made ++ ((n + 1) ∷ [])) gone ≡ live ++ ((n + 1) ∷ []) = less_append made ((n + 1) ∷ []) gone ∙ ap (λ z. difference made gone ++ z) (cond-false (is_member (n + 1) gone) [] ((n + 1) ∷ []) new) ∙ ap (λ z. z ++ ((n + 1) ∷ [])) b.exact in
+    let left : difference (made ++ ((n + 1) ∷ [])) gone ≡ live ++ ((n + 1) ∷ []) = difference_append made ((n + 1) ∷ []) gone ∙ ap (λ z. difference made gone ++ z) (cond-false (is_member (n + 1) gone) [] ((n + 1) ∷ []) new) ∙ ap (λ z. z ++ ((n + 1) ∷ [])) b.exact in
     rw (append-nil gone) (record {
       exact = left;
       anew = distinct_snoc made (n + 1) b.anew (above_none n (n + 1) made lt b.up_to);
@@ -128,7 +128,7 @@ books_gone : (n x : ℕ) (live made gone : List ℕ) → is_member x live ≡ tr
 books_gone n x live made gone h b =
     let here : is_member x (difference made gone) ≡ true = ap (is_member x) b.exact ∙ h in
     record {
-      exact = less_less made gone (x ∷ []) ∙ ap (λ z. difference z (x ∷ [])) b.exact;
+      exact = difference_difference made gone (x ∷ []) ∙ ap (λ z. difference z (x ∷ [])) b.exact;
       anew = b.anew;
       once = distinct_snoc gone x b.once (left x made gone here).1;
       real = within_append gone (x ∷ []) made b.real ((left x made gone here).0, tt);

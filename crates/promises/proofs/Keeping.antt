@@ -17,7 +17,7 @@ use Rattle.histories.specs.Records as over
 use Rattle.histories.specs.Sessions.{RunningSession, EndedSession, ends, stays, LinkSession}
 use Rattle.promises.specs.Promises.{HandedInSession, ReportsSessions, KeepsPromises, EveryRun, EverySession}
 use Rattle.promises.proofs.Cases.{both, clash}
-use Rattle.promises.proofs.Books.{within_less}
+use Rattle.promises.proofs.Books.{within_difference}
 use Rattle.promises.proofs.Forms.{link_there}
 use Rattle.promises.proofs.EntityForms.{HasForm, at_idle, at_select, at_secret, at_sch, in_sch}
 use Rattle.promises.proofs.Turns.{not_idle, not_linked, secret_gone, both_gone}
@@ -159,7 +159,7 @@ kept s law {m} H g o quiet = record {
     live = sym H.books.exact;
     made_once = H.books.anew;
     destroyed_once = H.books.once;
-    destroyed_made = within_less _ _ H.books.real;
+    destroyed_made = within_difference _ _ H.books.real;
     none_idle = idle_empty s H.sound;
     put_away = none_left s H.sound;
   };

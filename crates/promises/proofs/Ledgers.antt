@@ -62,19 +62,19 @@ module _ (s : Scheme) (value : List ℕ) (z : End) where
   add_sent X (gives a b c d f) = X
   add_sent X (other a b c) = X
 
-  abbrev pub add_taken : {e : Entry} {n n' : ℕ} {held held' : List ℕ} → List Rec → Act s value z e n held n' held' → List Rec
-  add_taken X (sends plain a b c d) = X
-  add_taken X (takes {n} who payload plain a b c d f g h) = record { num = n + 1; bytes = plain } ∷ X
-  add_taken X (gives a b c d f) = X
-  add_taken X (other a b c) = X
+  abbrev pub add_received : {e : Entry} {n n' : ℕ} {held held' : List ℕ} → List Rec → Act s value z e n held n' held' → List Rec
+  add_received X (sends plain a b c d) = X
+  add_received X (takes {n} who payload plain a b c d f g h) = record { num = n + 1; bytes = plain } ∷ X
+  add_received X (gives a b c d f) = X
+  add_received X (other a b c) = X
 
   abbrev pub sent_of : {since : History} {n : ℕ} {held : List ℕ} → Ledger s value z since n held → List Rec
   sent_of start = []
   sent_of (more L a) = add_sent (sent_of L) a
 
-  abbrev pub taken_of : {since : History} {n : ℕ} {held : List ℕ} → Ledger s value z since n held → List Rec
-  taken_of start = []
-  taken_of (more L a) = add_taken (taken_of L) a
+  abbrev pub received_of : {since : History} {n : ℕ} {held : List ℕ} → Ledger s value z since n held → List Rec
+  received_of start = []
+  received_of (more L a) = add_received (received_of L) a
 
   pub sent_is : {since : History} {n : ℕ} {held : List ℕ} (L : Ledger s value z since n held) → data_sent since ≡ to_data (sent_of L)
   sent_is start = refl
@@ -83,16 +83,16 @@ module _ (s : Scheme) (value : List ℕ) (z : End) where
   sent_is (more {since} L (gives a b c d f)) = ap (λ y. data_sent since ++ y) a ∙ append-nil (data_sent since) ∙ sent_is L
   sent_is (more {since} L (other a b c)) = ap (λ y. data_sent since ++ y) a ∙ append-nil (data_sent since) ∙ sent_is L
 
-  pub taken_is : {since : History} {n : ℕ} {held : List ℕ} (L : Ledger s value z since n held) → to_data (taken_of L) ≡ data_handed since ++ waiting held
-  taken_is start = refl
-  taken_is (more {since} {e} {held} L (sends plain a b c d)) = taken_is L ∙ ap (λ y. y ++ waiting held) (sym (none_handed e since c))
-  taken_is (more {since} {e} L (takes who payload plain a b c d f g h)) =
-      let was : to_data (taken_of L) ≡ data_handed since = taken_is L ∙ append-nil (data_handed since) in
+  pub received_is : {since : History} {n : ℕ} {held : List ℕ} (L : Ledger s value z since n held) → to_data (received_of L) ≡ data_handed since ++ waiting held
+  received_is start = refl
+  received_is (more {since} {e} {held} L (sends plain a b c d)) = received_is L ∙ ap (λ y. y ++ waiting held) (sym (none_handed e since c))
+  received_is (more {since} {e} L (takes who payload plain a b c d f g h)) =
+      let was : to_data (received_of L) ≡ data_handed since = received_is L ∙ append-nil (data_handed since) in
       ap (λ y. y ++ (plain ∷ [])) (was ∙ sym (none_handed e since c)) ∙ ap (λ y. data_handed (e ∷ since) ++ y) (sym (one_waiting plain h))
-  taken_is (more {since} {e} {held} L (gives a b c d f)) =
+  received_is (more {since} {e} {held} L (gives a b c d f)) =
       let out : data_handed (e ∷ since) ≡ data_handed since ++ (held ∷ []) = ap (λ t. data_handed since ++ cond t (e.written ∷ []) []) c ∙ ap (λ y. data_handed since ++ (y ∷ [])) d in
-      taken_is L ∙ ap (λ y. data_handed since ++ y) (one_waiting held f) ∙ sym out ∙ sym (append-nil (data_handed (e ∷ since)))
-  taken_is (more {since} {e} {held} L (other a b c)) = taken_is L ∙ ap (λ y. y ++ waiting held) (sym (none_handed e since c))
+      received_is L ∙ ap (λ y. data_handed since ++ y) (one_waiting held f) ∙ sym out ∙ sym (append-nil (data_handed (e ∷ since)))
+  received_is (more {since} {e} {held} L (other a b c)) = received_is L ∙ ap (λ y. y ++ waiting held) (sym (none_handed e since c))
 
   -- their numbers fall from the newest
 
@@ -103,12 +103,12 @@ module _ (s : Scheme) (value : List ℕ) (z : End) where
   sent_desc (more L (gives a b c d f)) = sent_desc L
   sent_desc (more L (other a b c)) = sent_desc L
 
-  pub taken_desc : {since : History} {n : ℕ} {held : List ℕ} (L : Ledger s value z since n held) → Desc (n + 1) (taken_of L)
-  taken_desc start = tt
-  taken_desc (more {n} L (sends plain a b c d)) = desc_more (n + 1) (n + 1 + 1) _ (omega arith) (taken_desc L)
-  taken_desc (more {n} L (takes who payload plain a b c d f g h)) = ((omega arith), taken_desc L)
-  taken_desc (more L (gives a b c d f)) = taken_desc L
-  taken_desc (more L (other a b c)) = taken_desc L
+  pub received_desc : {since : History} {n : ℕ} {held : List ℕ} (L : Ledger s value z since n held) → Desc (n + 1) (received_of L)
+  received_desc start = tt
+  received_desc (more {n} L (sends plain a b c d)) = desc_more (n + 1) (n + 1 + 1) _ (omega arith) (received_desc L)
+  received_desc (more {n} L (takes who payload plain a b c d f g h)) = ((omega arith), received_desc L)
+  received_desc (more L (gives a b c d f)) = received_desc L
+  received_desc (more L (other a b c)) = received_desc L
 
   first_le : {since : History} {n : ℕ} {held : List ℕ} → Ledger s value z since n held → s.first ≤ n
   first_le start = omega arith
@@ -140,7 +140,7 @@ module _ (s : Scheme) (value : List ℕ) (z : End) where
   abbrev pub Either : List Rec → List Rec → ℕ → Type 0
   Either X Y k = ((d : List ℕ) × Has k d X) ⊎ ((d : List ℕ) × Has k d Y)
 
-  pub complete : {since : History} {n : ℕ} {held : List ℕ} (L : Ledger s value z since n held) (k : ℕ) → s.first < k → k ≤ n → Either (sent_of L) (taken_of L) k
+  pub complete : {since : History} {n : ℕ} {held : List ℕ} (L : Ledger s value z since n held) (k : ℕ) → s.first < k → k ≤ n → Either (sent_of L) (received_of L) k
   complete start k lo hi = absurd (omega arith)
   complete (more {n} L (sends plain a b c d)) k lo hi =
       elim (cases_lt n k) [
@@ -163,16 +163,16 @@ module _ (s : Scheme) (value : List ℕ) (z : End) where
     pub opens : unseal s value z payload ≡ Some (who, k, x)
     pub theirs : eqb who z.role ≡ false
 
-  pub taken_copied : {since : History} {n : ℕ} {held : List ℕ} (L : Ledger s value z since n held) (copies : List (List ℕ)) → GetsOnlyCopies copies since → (k : ℕ) (x : List ℕ) → Has k x (taken_of L) → Copied copies k x
-  taken_copied start copies o k x h = absurd h
-  taken_copied (more L (sends plain a b c d)) copies o k x h = taken_copied L copies o.1 k x h
-  taken_copied (more {n} L (takes who payload plain a b c d f g h)) copies o k x i =
+  pub received_copied : {since : History} {n : ℕ} {held : List ℕ} (L : Ledger s value z since n held) (copies : List (List ℕ)) → GetsOnlyCopies copies since → (k : ℕ) (x : List ℕ) → Has k x (received_of L) → Copied copies k x
+  received_copied start copies o k x h = absurd h
+  received_copied (more L (sends plain a b c d)) copies o k x h = received_copied L copies o.1 k x h
+  received_copied (more {n} L (takes who payload plain a b c d f g h)) copies o k x i =
       elim i [
         | inl q ↦ record { who = who; payload = payload; copy = d copies o.0; opens = f ∙ ap (λ y. Some (who, y, plain)) (sym q.0) ∙ ap (λ y. Some (who, k, y)) (sym q.1); theirs = g }
-        | inr r ↦ taken_copied L copies o.1 k x r
+        | inr r ↦ received_copied L copies o.1 k x r
       ]
-  taken_copied (more L (gives a b c d f)) copies o k x h = taken_copied L copies o.1 k x h
-  taken_copied (more L (other a b c)) copies o k x h = taken_copied L copies o.1 k x h
+  received_copied (more L (gives a b c d f)) copies o k x h = received_copied L copies o.1 k x h
+  received_copied (more L (other a b c)) copies o k x h = received_copied L copies o.1 k x h
 
   -- an ENC of the session: which record it seals
   pub record Sealed (X : List Rec) (enc : List ℕ) : Type 0 where

@@ -164,45 +164,45 @@ module _ (s : Scheme) (law : IsLawful s) (bytes : List ℕ) (beside : Ancillary)
       (λ t q. does_enter t.0 t.1 t.2 (λ x e. ap (λ y. s.open_of (keyring_of m.means) m.link y payload) (sym (value_is m.means.live LinkKey m.link x e)) ∙ good_is (s.open_of (keyring_of m.means) m.link (link_value m) payload) t q))
 
 module _ (s : Scheme) (law : IsLawful s) (bytes : List ℕ) (beside : Ancillary) (room sep : ℕ) (given : IsBytes bytes × IsBytes16 beside.seed) (service : Service) where
-  abbrev Hears : Model → Contents → Type 0
-  Hears m contents = Does s law (frame bytes beside room) sep m (message_effect s m beside service m.state contents)
+  abbrev Receives : Model → Contents → Type 0
+  Receives m contents = Does s law (frame bytes beside room) sep m (message_effect s m beside service m.state contents)
 
   abbrev Read : Contents → Type 0
   Read contents = reading bytes ≡ message (record { service = service; contents = contents })
 
-  hears_idle : (contents : Contents) → Read contents → {root : List ℕ} {last newest : ℕ} {kept : Service} {role : Role} {old : List ℕ} {number : ℕ} → Base root last newest → Hears (unlinked (none_live root last newest) st.Idle kept role old number 0) contents
-  hears_idle (error p) r base = did_ended s _ conf.Error _ _ refl (at_idle base)
-  hears_idle (act_req pid offer) r base = does_act_req s law _ sep base service pid offer beside.seed given.1 (fields_bytes bytes _ r given.0).1
-  hears_idle contents r base = does_fail s law _ sep _ (at_idle base)
+  receives_idle : (contents : Contents) → Read contents → {root : List ℕ} {last newest : ℕ} {kept : Service} {role : Role} {old : List ℕ} {number : ℕ} → Base root last newest → Receives (unlinked (none_live root last newest) st.Idle kept role old number 0) contents
+  receives_idle (error p) r base = did_ended s _ conf.Error _ _ refl (at_idle base)
+  receives_idle (act_req pid offer) r base = does_act_req s law _ sep base service pid offer beside.seed given.1 (fields_bytes bytes _ r given.0).1
+  receives_idle contents r base = does_fail s law _ sep _ (at_idle base)
 
-  hears_select : (contents : Contents) → Read contents → {root : List ℕ} {last newest : ℕ} {kept : Service} {role : Role} {old : List ℕ} {number : ℕ} → Base root last newest → IsBytes16 old → Hears (unlinked (none_live root last newest) st.Select kept role old number 0) contents
-  hears_select (error p) r base long = did_ended s _ conf.Error _ _ refl (at_select base long)
-  hears_select (act_res offer) r base long = does_in_session s law _ sep service _ (at_select base long) (λ _. does_act_res s law _ sep base offer long (fields_bytes bytes _ r given.0))
-  hears_select contents r base long = does_fail s law _ sep _ (at_select base long)
+  receives_select : (contents : Contents) → Read contents → {root : List ℕ} {last newest : ℕ} {kept : Service} {role : Role} {old : List ℕ} {number : ℕ} → Base root last newest → IsBytes16 old → Receives (unlinked (none_live root last newest) st.Select kept role old number 0) contents
+  receives_select (error p) r base long = did_ended s _ conf.Error _ _ refl (at_select base long)
+  receives_select (act_res offer) r base long = does_in_session s law _ sep service _ (at_select base long) (λ _. does_act_res s law _ sep base offer long (fields_bytes bytes _ r given.0))
+  receives_select contents r base long = does_fail s law _ sep _ (at_select base long)
 
   module _ {root : List ℕ} {last n : ℕ} {v : List ℕ} {kept : Service} {role : Role} {old : List ℕ} {number : ℕ} (one : One root last n v) where
-    hears_sender : (k : SecretOnly st.EstablishedSender) (contents : Contents) → Hears (unlinked (one_live root last n v) st.EstablishedSender kept role old number n) contents
-    hears_sender k (error p) = did_ended s _ conf.Error _ _ refl (at_secret _ k one)
-    hears_sender k (vfy_res check) = does_in_session s law _ sep service _ (at_secret _ k one) (λ _. does_vfy_res s law _ sep _ k n v one _ check)
-    hears_sender k contents = does_fail s law _ sep _ (at_secret _ k one)
+    receives_sender : (k : SecretOnly st.EstablishedSender) (contents : Contents) → Receives (unlinked (one_live root last n v) st.EstablishedSender kept role old number n) contents
+    receives_sender k (error p) = did_ended s _ conf.Error _ _ refl (at_secret _ k one)
+    receives_sender k (vfy_res check) = does_in_session s law _ sep service _ (at_secret _ k one) (λ _. does_vfy_res s law _ sep _ k n v one _ check)
+    receives_sender k contents = does_fail s law _ sep _ (at_secret _ k one)
 
-    hears_recipient : (k : SecretOnly st.EstablishedRecipient) (contents : Contents) → Hears (unlinked (one_live root last n v) st.EstablishedRecipient kept role old number n) contents
-    hears_recipient k (error p) = did_ended s _ conf.Error _ _ refl (at_secret _ k one)
-    hears_recipient k (vfy_req check) = does_in_session s law _ sep service _ (at_secret _ k one) (λ _. does_vfy_req s law _ sep _ k n v one _ check)
-    hears_recipient k contents = does_fail s law _ sep _ (at_secret _ k one)
+    receives_recipient : (k : SecretOnly st.EstablishedRecipient) (contents : Contents) → Receives (unlinked (one_live root last n v) st.EstablishedRecipient kept role old number n) contents
+    receives_recipient k (error p) = did_ended s _ conf.Error _ _ refl (at_secret _ k one)
+    receives_recipient k (vfy_req check) = does_in_session s law _ sep service _ (at_secret _ k one) (λ _. does_vfy_req s law _ sep _ k n v one _ check)
+    receives_recipient k contents = does_fail s law _ sep _ (at_secret _ k one)
 
-    hears_sse : (k : SecretOnly st.ConfirmedSse) (contents : Contents) → Hears (unlinked (one_live root last n v) st.ConfirmedSse kept role old number n) contents
-    hears_sse k (error p) = did_ended s _ conf.Error _ _ refl (at_secret _ k one)
-    hears_sse k (tmn p) = does_in_session s law _ sep service _ (at_secret _ k one) (λ _. did_ended s _ conf.Terminated _ _ refl (at_secret _ k one))
-    hears_sse k contents = does_fail s law _ sep _ (at_secret _ k one)
+    receives_sse : (k : SecretOnly st.ConfirmedSse) (contents : Contents) → Receives (unlinked (one_live root last n v) st.ConfirmedSse kept role old number n) contents
+    receives_sse k (error p) = did_ended s _ conf.Error _ _ refl (at_secret _ k one)
+    receives_sse k (tmn p) = does_in_session s law _ sep service _ (at_secret _ k one) (λ _. did_ended s _ conf.Terminated _ _ refl (at_secret _ k one))
+    receives_sse k contents = does_fail s law _ sep _ (at_secret _ k one)
 
-    hears_secret : (state : State) → SecretOnly state → (contents : Contents) → Hears (unlinked (one_live root last n v) state kept role old number n) contents
-    hears_secret st.Idle k contents = absurd (omega arith)
-    hears_secret st.Select k contents = absurd (omega arith)
-    hears_secret st.EstablishedSender k contents = hears_sender k contents
-    hears_secret st.EstablishedRecipient k contents = hears_recipient k contents
-    hears_secret st.ConfirmedSse k contents = hears_sse k contents
-    hears_secret st.ConfirmedSch k contents = absurd (omega arith)
+    receives_secret : (state : State) → SecretOnly state → (contents : Contents) → Receives (unlinked (one_live root last n v) state kept role old number n) contents
+    receives_secret st.Idle k contents = absurd (omega arith)
+    receives_secret st.Select k contents = absurd (omega arith)
+    receives_secret st.EstablishedSender k contents = receives_sender k contents
+    receives_secret st.EstablishedRecipient k contents = receives_recipient k contents
+    receives_secret st.ConfirmedSse k contents = receives_sse k contents
+    receives_secret st.ConfirmedSch k contents = absurd (omega arith)
 
   -- the bytes of a record of a link session
   record_bytes : (payload : List ℕ) → Read (enc payload) → is_same_service service Sch ≡ true → 0x14 ∷ payload ≡ bytes
@@ -211,36 +211,36 @@ module _ (s : Scheme) (law : IsLawful s) (bytes : List ℕ) (beside : Ancillary)
       ap (λ k. (k * 16 + 4) ∷ payload) (sym code) ∙ read_is bytes _ r
 
   -- a record is taken where nothing is held; of the other service it is a fault
-  hears_enc : (payload : List ℕ) → Read (enc payload) → {root : List ℕ} {last n : ℕ} {v w : List ℕ} {role : Role} {old : List ℕ} {number : ℕ} (held : List ℕ) → Two root last n v w → s.first ≤ number → number ≤ s.final
-      → let m = in_link (two_live root last n v w) role old number held n in is_blocked m (record { service = service; contents = enc payload }) ≡ false → Hears m (enc payload)
-  hears_enc payload r (x ∷ held) two lo hi free =
+  receives_enc : (payload : List ℕ) → Read (enc payload) → {root : List ℕ} {last n : ℕ} {v w : List ℕ} {role : Role} {old : List ℕ} {number : ℕ} (held : List ℕ) → Two root last n v w → s.first ≤ number → number ≤ s.final
+      → let m = in_link (two_live root last n v w) role old number held n in is_blocked m (record { service = service; contents = enc payload }) ≡ false → Receives m (enc payload)
+  receives_enc payload r (x ∷ held) two lo hi free =
       does_in_session s law _ sep service _ (at_sch two lo hi)
       (λ same.
       let some : eqb (length (x ∷ held)) 0 ≡ false = ne_eqb (length (x ∷ held)) 0 (λ e. omega arith) in
       let full : (is_same_service service Sch && not (is_empty (x ∷ held))) ≡ true = rw (same, some) in
       clash _ free full)
-  hears_enc payload r {role} {old} [] two lo hi free =
+  receives_enc payload r {role} {old} [] two lo hi free =
       does_in_session s law _ sep service _ (at_sch two lo hi)
       (λ same. does_enc s law bytes beside room sep role old two lo hi payload (λ copies f. subst (IsCopyIfEnc copies) (sym (record_bytes payload r same)) f refl))
 
-  hears_link : (contents : Contents) → Read contents → {root : List ℕ} {last n : ℕ} {v w : List ℕ} {role : Role} {old : List ℕ} {number : ℕ} (held : List ℕ) → Two root last n v w → s.first ≤ number → number ≤ s.final
-      → let m = in_link (two_live root last n v w) role old number held n in is_blocked m (record { service = service; contents = contents }) ≡ false → Hears m contents
-  hears_link (error p) r held two lo hi free = did_ended s _ conf.Error _ _ refl (at_sch two lo hi)
-  hears_link (tmn p) r held two lo hi free = does_in_session s law _ sep service _ (at_sch two lo hi) (λ _. did_ended s _ conf.Terminated _ _ refl (at_sch two lo hi))
-  hears_link (enc payload) r held two lo hi free = hears_enc payload r held two lo hi free
-  hears_link contents r held two lo hi free = does_fail s law _ sep _ (at_sch two lo hi)
+  receives_link : (contents : Contents) → Read contents → {root : List ℕ} {last n : ℕ} {v w : List ℕ} {role : Role} {old : List ℕ} {number : ℕ} (held : List ℕ) → Two root last n v w → s.first ≤ number → number ≤ s.final
+      → let m = in_link (two_live root last n v w) role old number held n in is_blocked m (record { service = service; contents = contents }) ≡ false → Receives m contents
+  receives_link (error p) r held two lo hi free = did_ended s _ conf.Error _ _ refl (at_sch two lo hi)
+  receives_link (tmn p) r held two lo hi free = does_in_session s law _ sep service _ (at_sch two lo hi) (λ _. did_ended s _ conf.Terminated _ _ refl (at_sch two lo hi))
+  receives_link (enc payload) r held two lo hi free = receives_enc payload r held two lo hi free
+  receives_link contents r held two lo hi free = does_fail s law _ sep _ (at_sch two lo hi)
 
-  hears : (contents : Contents) → Read contents → {m : Model} → HasForm s m → is_blocked m (record { service = service; contents = contents }) ≡ false → Hears m contents
-  hears contents r (at_idle base) free = hears_idle contents r base
-  hears contents r (at_select base long) free = hears_select contents r base long
-  hears contents r (at_secret state k one) free = hears_secret one state k contents
-  hears contents r (at_sch {held} two lo hi) free = hears_link contents r held two lo hi free
+  receives : (contents : Contents) → Read contents → {m : Model} → HasForm s m → is_blocked m (record { service = service; contents = contents }) ≡ false → Receives m contents
+  receives contents r (at_idle base) free = receives_idle contents r base
+  receives contents r (at_select base long) free = receives_select contents r base long
+  receives contents r (at_secret state k one) free = receives_secret one state k contents
+  receives contents r (at_sch {held} two lo hi) free = receives_link contents r held two lo hi free
 
 -- a frame that was read, or not
-pub did_taken : (s : Scheme) → IsLawful s → (bytes : List ℕ) (beside : Ancillary) (room sep : ℕ) → IsBytes bytes × IsBytes16 beside.seed → (r : Reading) → reading bytes ≡ r → {m : Model} → HasForm s m → Did s (frame bytes beside room) m (admitted_effect s m beside sep (admission m r))
-did_taken s law bytes beside room sep given (unread number) e S = did_refused s _ no.FrameLength S
-did_taken s law bytes beside room sep given (fault code) e S = does_fail s law _ sep _ S
-did_taken s law bytes beside room sep given (message p) e {m} S =
+pub did_received : (s : Scheme) → IsLawful s → (bytes : List ℕ) (beside : Ancillary) (room sep : ℕ) → IsBytes bytes × IsBytes16 beside.seed → (r : Reading) → reading bytes ≡ r → {m : Model} → HasForm s m → Did s (frame bytes beside room) m (admitted_effect s m beside sep (admission m r))
+did_received s law bytes beside room sep given (unread number) e S = did_refused s _ no.FrameLength S
+did_received s law bytes beside room sep given (fault code) e S = does_fail s law _ sep _ S
+did_received s law bytes beside room sep given (message p) e {m} S =
     both (is_blocked m p) (λ a. Did s (frame bytes beside room) m (admitted_effect s m beside sep a))
     (λ _. did_refused s _ no.DataHeld S)
-    (λ free. hears s law bytes beside room sep given p.service p.contents e S free)
+    (λ free. receives s law bytes beside room sep given p.service p.contents e S free)

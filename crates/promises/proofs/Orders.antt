@@ -52,29 +52,29 @@ has_same b n d e (r ∷ X) p h k =
       ]
     ]
 
-part_more : {xs ys : List (List ℕ)} (zs : List (List ℕ)) → IsSubsequence xs ys → IsSubsequence xs (ys ++ zs)
-part_more zs done = done
-part_more zs (skip p) = skip (part_more zs p)
-part_more zs (use' p) = use' (part_more zs p)
+subsequence_more : {xs ys : List (List ℕ)} (zs : List (List ℕ)) → IsSubsequence xs ys → IsSubsequence xs (ys ++ zs)
+subsequence_more zs done = done
+subsequence_more zs (skip p) = skip (subsequence_more zs p)
+subsequence_more zs (use' p) = use' (subsequence_more zs p)
 
-part_end : (x : List ℕ) (ys : List (List ℕ)) → IsSubsequence (x ∷ []) (ys ++ (x ∷ []))
-part_end x [] = use' done
-part_end x (y ∷ ys) = skip (part_end x ys)
+subsequence_end : (x : List ℕ) (ys : List (List ℕ)) → IsSubsequence (x ∷ []) (ys ++ (x ∷ []))
+subsequence_end x [] = use' done
+subsequence_end x (y ∷ ys) = skip (subsequence_end x ys)
 
-part_both : {xs ys : List (List ℕ)} (x : List ℕ) → IsSubsequence xs ys → IsSubsequence (xs ++ (x ∷ [])) (ys ++ (x ∷ []))
-part_both x (done {ys}) = part_end x ys
-part_both x (skip p) = skip (part_both x p)
-part_both x (use' p) = use' (part_both x p)
+subsequence_both : {xs ys : List (List ℕ)} (x : List ℕ) → IsSubsequence xs ys → IsSubsequence (xs ++ (x ∷ [])) (ys ++ (x ∷ []))
+subsequence_both x (done {ys}) = subsequence_end x ys
+subsequence_both x (skip p) = skip (subsequence_both x p)
+subsequence_both x (use' p) = use' (subsequence_both x p)
 
-pub part_front : {ws ys : List (List ℕ)} → IsSubsequence ws ys → (xs zs : List (List ℕ)) → ws ≡ xs ++ zs → IsSubsequence xs ys
-part_front done [] zs e = done
-part_front done (x ∷ xs) zs e = absurd (cc)
-part_front (skip p) xs zs e = skip (part_front p xs zs e)
-part_front (use' p) [] zs e = done
-part_front (use' {x = w} {xs = ws} {ys} p) (x ∷ xs) zs e =
+pub subsequence_front : {ws ys : List (List ℕ)} → IsSubsequence ws ys → (xs zs : List (List ℕ)) → ws ≡ xs ++ zs → IsSubsequence xs ys
+subsequence_front done [] zs e = done
+subsequence_front done (x ∷ xs) zs e = absurd (cc)
+subsequence_front (skip p) xs zs e = skip (subsequence_front p xs zs e)
+subsequence_front (use' p) [] zs e = done
+subsequence_front (use' {x = w} {xs = ws} {ys} p) (x ∷ xs) zs e =
     let h : w ≡ x = cc in
     let t : ws ≡ xs ++ zs = cc in
-    subst (λ z. IsSubsequence (z ∷ xs) (w ∷ ys)) h (use' (part_front p xs zs t))
+    subst (λ z. IsSubsequence (z ∷ xs) (w ∷ ys)) h (use' (subsequence_front p xs zs t))
 
 -- the same head taken off both
 tails : (x y : Rec) (X Y : List Rec) (n : ℕ) (d : List ℕ) → x.num ≡ y.num → Desc x.num X → Has n d X → Has n d (y ∷ Y) → Has n d Y
@@ -92,20 +92,20 @@ above y b X Y n d e p h (inl q) =
     absurd (omega arith)
 above y b X Y n d e p h (inr k) = k
 
-pub sub_part : (b c : ℕ) (X Y : List Rec) → Desc b X → Desc c Y → Sub X Y → IsSubsequence (to_data X) (to_data Y)
-sub_part b c [] [] p q f = done
-sub_part b c (x ∷ X) [] p q f = absurd (f x.num x.bytes (inl (refl, refl)))
-sub_part b c [] (y ∷ Y) p q f = done
-sub_part b c (x ∷ X) (y ∷ Y) p q f =
+pub sub_subsequence : (b c : ℕ) (X Y : List Rec) → Desc b X → Desc c Y → Sub X Y → IsSubsequence (to_data X) (to_data Y)
+sub_subsequence b c [] [] p q f = done
+sub_subsequence b c (x ∷ X) [] p q f = absurd (f x.num x.bytes (inl (refl, refl)))
+sub_subsequence b c [] (y ∷ Y) p q f = done
+sub_subsequence b c (x ∷ X) (y ∷ Y) p q f =
     elim (f x.num x.bytes (inl (refl, refl))) [
       | inl e ↦
-          let rest : IsSubsequence (to_data X) (to_data Y) = sub_part x.num y.num X Y p.1 q.1 (λ n d h. tails x y X Y n d e.0 p.1 h (f n d (inr h))) in
-          subst (λ z. IsSubsequence (to_data X ++ (x.bytes ∷ [])) (to_data Y ++ (z ∷ []))) e.1 (part_both x.bytes rest)
+          let rest : IsSubsequence (to_data X) (to_data Y) = sub_subsequence x.num y.num X Y p.1 q.1 (λ n d h. tails x y X Y n d e.0 p.1 h (f n d (inr h))) in
+          subst (λ z. IsSubsequence (to_data X ++ (x.bytes ∷ [])) (to_data Y ++ (z ∷ []))) e.1 (subsequence_both x.bytes rest)
       | inr h ↦
           let l : x.num < y.num = has_below y.num x.num x.bytes Y q.1 h in
           let low : Desc (x.num + 1) (x ∷ X) = ((omega arith), p.1) in
           let le : x.num + 1 ≤ y.num = omega arith in
-          part_more (y.bytes ∷ []) (sub_part (x.num + 1) y.num (x ∷ X) Y low q.1 (λ n d k. above y (x.num + 1) (x ∷ X) Y n d le low k (f n d k)))
+          subsequence_more (y.bytes ∷ []) (sub_subsequence (x.num + 1) y.num (x ∷ X) Y low q.1 (λ n d k. above y (x.num + 1) (x ∷ X) Y n d le low k (f n d k)))
     ]
 
 sub_same : (b c : ℕ) (X Y : List Rec) → Desc b X → Desc c Y → Sub X Y → Sub Y X → to_data X ≡ to_data Y

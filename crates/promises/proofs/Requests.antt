@@ -23,7 +23,7 @@ use Rattle.promises.proofs.Cases.{both, clash}
 use Rattle.promises.proofs.Ledgers.{sends, gives}
 use Rattle.promises.proofs.EntityForms.{HasForm, at_idle, at_select, at_secret, at_sch, in_sch, Did, outside, inside}
 use Rattle.promises.proofs.Turns.{silent, unmoved, not_linked, not_idle, did_refused, did_ended}
-use Rattle.promises.proofs.Messages.{did_taken}
+use Rattle.promises.proofs.Messages.{did_received}
 
 -- data that a record can have is not empty
 not_empty : (xs : List ℕ) → is_empty xs ≡ false → 0 < length xs
@@ -117,7 +117,7 @@ module _ (s : Scheme) where
       let c = frame bytes beside room in
       both (is_short_buffer room) (Did s c m) (λ _. did_refused s c _ S)
       (λ _. both (is_wrong_seed beside.seed) (Did s c m) (λ _. did_refused s c _ S)
-      (λ long. did_taken s law bytes beside room (first_byte bytes) (given.0, sixteen beside.seed long given.1) (reading bytes) refl S))
+      (λ long. did_received s law bytes beside room (first_byte bytes) (given.0, sixteen beside.seed long given.1) (reading bytes) refl S))
 
 pub did : (s : Scheme) → IsLawful s → (c : Call) → IsGivenBytes c → {m : Model} → HasForm s m → Did s c m (call_effect s m c)
 did s law (invoke service pid seed room) given S = did_invoke s service pid seed room given S

@@ -133,84 +133,84 @@ those_append n w (c ∷ a) b =
     elim (eqb c.session n && eqb (direction_number c.direction) (direction_number w)) as (λ t. cond t (c.plain ∷ data_of n w (a ++ b)) (data_of n w (a ++ b)) ≡ cond t (c.plain ∷ data_of n w a) (data_of n w a) ++ data_of n w b) [ true ↦ ap (λ z. c.plain ∷ z) ih | false ↦ ih ]
 
 -- a record in the session k
-abbrev charge : ℕ → Direction → List ℕ → SessionRecord
-charge k w plain = record { session = k; direction = w; plain = plain }
+abbrev record_told : ℕ → Direction → List ℕ → SessionRecord
+record_told k w plain = record { session = k; direction = w; plain = plain }
 
 -- the records of data sent in a call in the session k
-abbrev charge_sent : ℕ → List (List ℕ) → List SessionRecord
-charge_sent k xs = map (λ plain. charge k was_sent plain) xs
+abbrev record_sent : ℕ → List (List ℕ) → List SessionRecord
+record_sent k xs = map (λ plain. record_told k was_sent plain) xs
 
 -- the record of data handed out in a call in the session k
-abbrev charge_handed : ℕ → Entry → List SessionRecord
-charge_handed k e = cond (is_retrieval e) (charge k was_handed e.written ∷ []) []
+abbrev record_handed : ℕ → Entry → List SessionRecord
+record_handed k e = cond (is_retrieval e) (record_told k was_handed e.written ∷ []) []
 
 -- data sent in another session
-sent_other : (n k : ℕ) (w : Direction) (xs : List (List ℕ)) → eqb k n ≡ false → data_of n w (charge_sent k xs) ≡ []
+sent_other : (n k : ℕ) (w : Direction) (xs : List (List ℕ)) → eqb k n ≡ false → data_of n w (record_sent k xs) ≡ []
 sent_other n k w [] ne = refl
 sent_other n k w (x ∷ xs) ne = rw ne (sent_other n k w xs ne)
 
 -- data handed out in another session
-handed_other : (n k : ℕ) (w : Direction) (e : Entry) → eqb k n ≡ false → data_of n w (charge_handed k e) ≡ []
-handed_other n k w e ne = elim (is_retrieval e) as (λ t. data_of n w (cond t (charge k was_handed e.written ∷ []) []) ≡ []) [ true ↦ rw ne | false ↦ refl ]
+handed_other : (n k : ℕ) (w : Direction) (e : Entry) → eqb k n ≡ false → data_of n w (record_handed k e) ≡ []
+handed_other n k w e ne = elim (is_retrieval e) as (λ t. data_of n w (cond t (record_told k was_handed e.written ∷ []) []) ≡ []) [ true ↦ rw ne | false ↦ refl ]
 
 -- a call in another session adds none
-charges_other : (n : ℕ) (w : Direction) (e : Entry) (h : History) → (running_session h ≡ n → ⊥) → data_of n w (session_records (e ∷ h)) ≡ data_of n w (session_records h)
-charges_other n w e h apart =
+session_records_other : (n : ℕ) (w : Direction) (e : Entry) (h : History) → (running_session h ≡ n → ⊥) → data_of n w (session_records (e ∷ h)) ≡ data_of n w (session_records h)
+session_records_other n w e h apart =
     let k = running_session h in
     let ne : eqb k n ≡ false = ne_eqb k n apart in
     let a = sent_other n k w (data_sent_in e) ne in
     let b = handed_other n k w e ne in
-    let none : data_of n w (records_in k e) ≡ [] = those_append n w (charge_sent k (data_sent_in e)) (charge_handed k e) ∙ ap (λ z. z ++ data_of n w (charge_handed k e)) a ∙ b in
+    let none : data_of n w (records_in k e) ≡ [] = those_append n w (record_sent k (data_sent_in e)) (record_handed k e) ∙ ap (λ z. z ++ data_of n w (record_handed k e)) a ∙ b in
     those_append n w (session_records h) (records_in k e) ∙ ap (λ z. data_of n w (session_records h) ++ z) none ∙ append-nil (data_of n w (session_records h))
 
 -- data sent in the session were sent
-sent_sent : (n k : ℕ) (xs : List (List ℕ)) → eqb k n ≡ true → data_of n was_sent (charge_sent k xs) ≡ xs
+sent_sent : (n k : ℕ) (xs : List (List ℕ)) → eqb k n ≡ true → data_of n was_sent (record_sent k xs) ≡ xs
 sent_sent n k [] q = refl
 sent_sent n k (x ∷ xs) q = let ih = sent_sent n k xs q in rw (q, ih)
 
 -- and not handed out
-sent_handed : (n k : ℕ) (xs : List (List ℕ)) → eqb k n ≡ true → data_of n was_handed (charge_sent k xs) ≡ []
+sent_handed : (n k : ℕ) (xs : List (List ℕ)) → eqb k n ≡ true → data_of n was_handed (record_sent k xs) ≡ []
 sent_handed n k [] q = refl
 sent_handed n k (x ∷ xs) q = rw q (sent_handed n k xs q)
 
 -- data handed out in the session were not sent
-handed_sent : (n k : ℕ) (e : Entry) → eqb k n ≡ true → data_of n was_sent (charge_handed k e) ≡ []
-handed_sent n k e q = elim (is_retrieval e) as (λ t. data_of n was_sent (cond t (charge k was_handed e.written ∷ []) []) ≡ []) [ true ↦ rw q | false ↦ refl ]
+handed_sent : (n k : ℕ) (e : Entry) → eqb k n ≡ true → data_of n was_sent (record_handed k e) ≡ []
+handed_sent n k e q = elim (is_retrieval e) as (λ t. data_of n was_sent (cond t (record_told k was_handed e.written ∷ []) []) ≡ []) [ true ↦ rw q | false ↦ refl ]
 
 -- but handed out
-handed_handed : (n k : ℕ) (e : Entry) → eqb k n ≡ true → data_of n was_handed (charge_handed k e) ≡ went_in was_handed e
-handed_handed n k e q = elim (is_retrieval e) as (λ t. data_of n was_handed (cond t (charge k was_handed e.written ∷ []) []) ≡ cond t (e.written ∷ []) []) [ true ↦ rw q | false ↦ refl ]
+handed_handed : (n k : ℕ) (e : Entry) → eqb k n ≡ true → data_of n was_handed (record_handed k e) ≡ went_in was_handed e
+handed_handed n k e q = elim (is_retrieval e) as (λ t. data_of n was_handed (cond t (record_told k was_handed e.written ∷ []) []) ≡ cond t (e.written ∷ []) []) [ true ↦ rw q | false ↦ refl ]
 
 -- a call in the session tells what went each way in it
-charged_went : (n k : ℕ) (w : Direction) (e : Entry) → eqb k n ≡ true → data_of n w (records_in k e) ≡ went_in w e
-charged_went n k was_sent e q =
+records_went : (n k : ℕ) (w : Direction) (e : Entry) → eqb k n ≡ true → data_of n w (records_in k e) ≡ went_in w e
+records_went n k was_sent e q =
     let a = sent_sent n k (data_sent_in e) q in
     let b = handed_sent n k e q in
-    those_append n was_sent (charge_sent k (data_sent_in e)) (charge_handed k e) ∙ ap (λ z. z ++ data_of n was_sent (charge_handed k e)) a ∙ ap (λ z. data_sent_in e ++ z) b ∙ append-nil (data_sent_in e)
-charged_went n k was_handed e q =
+    those_append n was_sent (record_sent k (data_sent_in e)) (record_handed k e) ∙ ap (λ z. z ++ data_of n was_sent (record_handed k e)) a ∙ ap (λ z. data_sent_in e ++ z) b ∙ append-nil (data_sent_in e)
+records_went n k was_handed e q =
     let a = sent_handed n k (data_sent_in e) q in
     let b = handed_handed n k e q in
-    those_append n was_handed (charge_sent k (data_sent_in e)) (charge_handed k e) ∙ ap (λ z. z ++ data_of n was_handed (charge_handed k e)) a ∙ b
+    those_append n was_handed (record_sent k (data_sent_in e)) (record_handed k e) ∙ ap (λ z. z ++ data_of n was_handed (record_handed k e)) a ∙ b
 
 -- a call in the session adds what went in it
-charges_more : (n : ℕ) (w : Direction) (e : Entry) (h since : History) → running_session h ≡ n → data_of n w (session_records h) ≡ went w since → data_of n w (session_records (e ∷ h)) ≡ went w (e ∷ since)
-charges_more n w e h since q ih =
+session_records_more : (n : ℕ) (w : Direction) (e : Entry) (h since : History) → running_session h ≡ n → data_of n w (session_records h) ≡ went w since → data_of n w (session_records (e ∷ h)) ≡ went w (e ∷ since)
+session_records_more n w e h since q ih =
     let k = running_session h in
-    those_append n w (session_records h) (records_in k e) ∙ ap (λ z. data_of n w (session_records h) ++ z) (charged_went n k w e (eq-eqb k n q)) ∙ ap (λ z. z ++ went_in w e) ih ∙ sym (went_more w e since)
+    those_append n w (session_records h) (records_in k e) ∙ ap (λ z. data_of n w (session_records h) ++ z) (records_went n k w e (eq-eqb k n q)) ∙ ap (λ z. z ++ went_in w e) ih ∙ sym (went_more w e since)
 
 -- nothing is told of a session whose link key is not made yet
 none_told : (n : ℕ) (w : Direction) → 0 < n → (h : History) → is_member n (serials_made h) ≡ false → data_of n w (session_records h) ≡ []
 none_told n w pos [] k = refl
 none_told n w pos (e ∷ h) k =
     let parts = or_parts (is_member n (serials_made h)) (is_member n (serials_made_in e.answer)) (sym (member_append n (serials_made h) (serials_made_in e.answer)) ∙ k) in
-    charges_other n w e h (not_read n h pos parts.0) ∙ none_told n w pos h parts.0
+    session_records_other n w e h (not_read n h pos parts.0) ∙ none_told n w pos h parts.0
 
 -- a session that runs: the records told are those of its calls
 pub runs_told : (n : ℕ) (w : Direction) {h since : History} → Runs n h since → Orderly h → IsDistinct (serials_made h) → data_of n w (session_records h) ≡ went w since
 runs_told n w (starts {e} {h} pos q) o d =
     let new = start_new n e h pos q d in
-    charges_other n w e h (not_read n h pos new) ∙ none_told n w pos h new ∙ sym (went_none w)
-runs_told n w (goes_on {e} {h} {since} r k) o d = charges_more n w e h since (read_off n r o.1) (runs_told n w r o.1 (distinct_front (serials_made h) (serials_made_in e.answer) d))
+    session_records_other n w e h (not_read n h pos new) ∙ none_told n w pos h new ∙ sym (went_none w)
+runs_told n w (goes_on {e} {h} {since} r k) o d = session_records_more n w e h since (read_off n r o.1) (runs_told n w r o.1 (distinct_front (serials_made h) (serials_made_in e.answer) d))
 
 -- A session that is over.
 
@@ -245,10 +245,10 @@ over_unread n (stays {e} {h} r) o d q =
 
 -- a session that is over: the records told are those of its calls
 pub over_told : (n : ℕ) (w : Direction) {h since : History} → HasEnded n h since → Orderly h → IsDistinct (serials_made h) → data_of n w (session_records h) ≡ went w since
-over_told n w (ends {e} {h} {since} r k) o d = charges_more n w e h since (read_off n r o.1) (runs_told n w r o.1 (distinct_front (serials_made h) (serials_made_in e.answer) d))
+over_told n w (ends {e} {h} {since} r k) o d = session_records_more n w e h since (read_off n r o.1) (runs_told n w r o.1 (distinct_front (serials_made h) (serials_made_in e.answer) d))
 over_told n w (stays {e} {h} r) o d =
     let d' = distinct_front (serials_made h) (serials_made_in e.answer) d in
-    charges_other n w e h (over_unread n r o.1 d') ∙ over_told n w r o.1 d'
+    session_records_other n w e h (over_unread n r o.1 d') ∙ over_told n w r o.1 d'
 
 -- where no session runs none is read off
 pub none_read : (h : History) → (SomeRuns h → ⊥) → running_session h ≡ 0
@@ -305,5 +305,5 @@ no_others n w (e ∷ h) quiet some =
     let old : data_of n w (session_records h) ≡ data_of n w (session_records (e ∷ h)) → HasSession n (e ∷ h) = λ same. more_session n e h (no_others n w h quiet.1 (λ z. some (sym same ∙ z))) in
     elim (cases_Bool (eqb (running_session h) n)) [
       | inl t ↦ session_in n w e h quiet.0 (eqb-true (running_session h) n t) old
-      | inr f ↦ old (sym (charges_other n w e h (eqb-false (running_session h) n f)))
+      | inr f ↦ old (sym (session_records_other n w e h (eqb-false (running_session h) n f)))
     ]

@@ -7,8 +7,8 @@ use Rattle.histories.specs.Histories.{History, data_sent, data_handed}
 use Rattle.histories.specs.Sessions.{encs_sent, GetsOnlyCopies, IsSubsequence, IsPrefix, IsDisjoint}
 use Rattle.promises.specs.Promises.{OpensAlike}
 use Rattle.promises.proofs.Cases.{clash}
-use Rattle.promises.proofs.Orders.{to_data, Has, Sub, has_same, part_front, sub_part, sub_begins}
-use Rattle.promises.proofs.Ledgers.{End, seal, unseal, Ledger, sent_of, taken_of, waiting, told, sent_is, taken_is, sent_desc, taken_desc, sent_good, complete, taken_copied, Sealed, in_append, enc_sealed, number_told}
+use Rattle.promises.proofs.Orders.{to_data, Has, Sub, has_same, subsequence_front, sub_subsequence, sub_begins}
+use Rattle.promises.proofs.Ledgers.{End, seal, unseal, Ledger, sent_of, received_of, waiting, told, sent_is, received_is, sent_desc, received_desc, sent_good, complete, received_copied, Sealed, in_append, enc_sealed, number_told}
 
 abbrev who_in : Option (ℕ × ℕ × List ℕ) → ℕ
 who_in None = 0
@@ -44,9 +44,9 @@ module _ (s t : Scheme) (law : IsLawful s) (law' : IsLawful t) (alike : OpensAli
       let same : Some (who, k, x) ≡ Some (z'.role, r.num, r.plain) = sym opens ∙ alike.opens z.keyring value payload z.serial f v16 bytes ∙ ap (unseal t value z) p ∙ back in
       subst (λ y. Has y x (sent_of t value z' L')) (sym (ap num_in same)) (subst (λ y. Has r.num y (sent_of t value z' L')) (sym (ap plain_in same)) r.has)
 
-  taken_sent : Sub (taken_of s value z L) (sent_of t value z' L')
-  taken_sent k x h =
-      let c = taken_copied s value z L (encs_sent mine ++ encs_sent theirs) only k x h in
+  received_sent : Sub (received_of s value z L) (sent_of t value z' L')
+  received_sent k x h =
+      let c = received_copied s value z L (encs_sent mine ++ encs_sent theirs) only k x h in
       elim (in_append (0x14 ∷ c.payload) (encs_sent mine) (encs_sent theirs) c.copy) [
         | inl i ↦ absurd (not_own c.who k c.payload x c.opens c.theirs (enc_sealed s value z L (0x14 ∷ c.payload) i))
         | inr i ↦ sent_there c.who k c.payload x c.opens (enc_sealed t value z' L' (0x14 ∷ c.payload) i)
@@ -54,21 +54,21 @@ module _ (s t : Scheme) (law : IsLawful s) (law' : IsLawful t) (alike : OpensAli
 
   pub in_order : IsSubsequence (data_handed mine) (data_sent theirs)
   in_order =
-      let all : IsSubsequence (to_data (taken_of s value z L)) (to_data (sent_of t value z' L')) = sub_part (n + 1) (n' + 1) _ _ (taken_desc s value z L) (sent_desc t value z' L') taken_sent in
-      let front = part_front all (data_handed mine) (waiting held) (taken_is s value z L) in
+      let all : IsSubsequence (to_data (received_of s value z L)) (to_data (sent_of t value z' L')) = sub_subsequence (n + 1) (n' + 1) _ _ (received_desc s value z L) (sent_desc t value z' L') received_sent in
+      let front = subsequence_front all (data_handed mine) (waiting held) (received_is s value z L) in
       subst (λ y. IsSubsequence (data_handed mine) y) (sym (sent_is t value z' L')) front
 
   module _ (apart : IsDisjoint (told s value z (encs_sent mine)) (told t value z' (encs_sent theirs))) where
-    closed : (k : ℕ) (x : List ℕ) → Has k x (sent_of t value z' L') → k ≤ n → Has k x (taken_of s value z L)
+    closed : (k : ℕ) (x : List ℕ) → Has k x (sent_of t value z' L') → k ≤ n → Has k x (received_of s value z L)
     closed k x h le =
         let g = sent_good t value z' L' k x h in
         let lo : s.first < k = (let a = g.above in let same = alike.firsts in omega arith) in
         elim (complete s value z L k lo le) [
           | inl (y, i) ↦ absurd (apart k (number_told s value z law ok f v16 L k y i) (number_told t value z' law' ok' f' v16 L' k x h))
-          | inr (y, i) ↦ subst (λ q. Has k q (taken_of s value z L)) (has_same (n' + 1) k y x _ (sent_desc t value z' L') (taken_sent k y i) h) i
+          | inr (y, i) ↦ subst (λ q. Has k q (received_of s value z L)) (has_same (n' + 1) k y x _ (sent_desc t value z' L') (received_sent k y i) h) i
         ]
 
     pub no_gap : IsPrefix (data_handed mine) (data_sent theirs)
     no_gap =
-        let b = sub_begins n (n' + 1) _ _ (taken_desc s value z L) (sent_desc t value z' L') taken_sent closed in
-        (waiting held ++ b.0, sent_is t value z' L' ∙ b.1 ∙ ap (λ y. y ++ b.0) (taken_is s value z L) ∙ append_assoc (data_handed mine) (waiting held) b.0)
+        let b = sub_begins n (n' + 1) _ _ (received_desc s value z L) (sent_desc t value z' L') received_sent closed in
+        (waiting held ++ b.0, sent_is t value z' L' ∙ b.1 ∙ ap (λ y. y ++ b.0) (received_is s value z L) ∙ append_assoc (data_handed mine) (waiting held) b.0)

@@ -92,8 +92,8 @@ module _ (s : Scheme) (m : Model) (made more : List Call) (k : Call) (before : M
   pub history_more : (x : h.Entry) (old new : h.History) → x ≡ entry_of k (call_effect s (entity_after s m made) k) → old ≡ history s m made → new ≡ x ∷ old → new ≡ history s m more
   history_more x old new p q r = r ∙ ap (λ z. z ∷ old) p ∙ ap (λ z. entry_of k (call_effect s (entity_after s m made) k) ∷ z) q ∙ sym (ap (history s m) e)
 
-  pub charges_more : (x : h.Entry) (old new one : List SessionRecord) (session : ℕ) → x ≡ entry_of k (call_effect s (entity_after s m made) k) → old ≡ session_records (history s m made) → session ≡ running_session (history s m made) → one ≡ records_in session x → new ≡ old ++ one → new ≡ session_records (history s m more)
-  charges_more x old new one session p q l o r =
+  pub session_records_more : (x : h.Entry) (old new one : List SessionRecord) (session : ℕ) → x ≡ entry_of k (call_effect s (entity_after s m made) k) → old ≡ session_records (history s m made) → session ≡ running_session (history s m made) → one ≡ records_in session x → new ≡ old ++ one → new ≡ session_records (history s m more)
+  session_records_more x old new one session p q l o r =
       r ∙ ap (λ z. old ++ z) (o ∙ ap (records_in session) p ∙ ap (λ z. records_in z (entry_of k (call_effect s (entity_after s m made) k))) l)
       ∙ ap (λ z. z ++ records_in (running_session (history s m made)) (entry_of k (call_effect s (entity_after s m made) k))) q
       ∙ sym (ap (λ z. session_records (history s m z)) e)

@@ -5,7 +5,7 @@ use Rattle.entity.specs.Views.{view}
 use Rattle.replay.specs.LogViews.{logged_calls}
 use Rattle.replay.specs.Replays.{IsReplay}
 use Rattle.replay.proofs.Orders.{replayed}
-use Rattle.replay.proofs.Turns.{calls_more, told_more, in_place_more, records_more, given_more, model_more, entry_is, history_more, charges_more, session_more}
+use Rattle.replay.proofs.Turns.{calls_more, told_more, in_place_more, records_more, given_more, model_more, entry_is, history_more, session_records_more, session_more}
 use Rattle.replay.proofs.play.play.Goals as goal
 
 pub loop-i-preserved : goal.loop-i-preserved
@@ -30,7 +30,7 @@ loop-i-preserved g c =
       model = model_more s m old new _ before e so_far.model _ made.model;
       told = history_more s m old new _ before e so_far.model _ _ _ x so_far.told (told_more log c.loop-i.entries i _ c.note.result low so_far.places);
       in_place = in_place_more log c.loop-i.entries i _ c.note.result c.loop-i.session low so_far.places so_far.in_place (so_far.session ∙ sym (ap running_session so_far.told)) c.note.ensures.record;
-      records = charges_more s m old new _ before e so_far.model _ _ _ _ c.loop-i.session x so_far.records so_far.session c.note.ensures.record (records_more c.loop-i.entries i c.note.result place);
+      records = session_records_more s m old new _ before e so_far.model _ _ _ _ c.loop-i.session x so_far.records so_far.session c.note.ensures.record (records_more c.loop-i.entries i c.note.result place);
       session = session_more s m old new _ before e so_far.model c.make-answer.result.0 c.loop-i.session _ made.answer so_far.session c.next_session-session.ensures;
     }
 

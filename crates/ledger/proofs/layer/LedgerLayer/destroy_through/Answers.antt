@@ -1,6 +1,6 @@
 -- The rows still tell of the keys, whose serials are apart.
 use Rattle.std.proofs.Common.{rules, refl}
-use Rattle.ledger.proofs.RowLaws.{struck_kept}
+use Rattle.ledger.proofs.RowLaws.{mark_kept}
 use Rattle.ledger.proofs.layer.LedgerLayer.destroy_through.Goals as goal
 
 -- where the quota below denies the call, no key is destroyed
@@ -10,7 +10,7 @@ invariant_of-self g c =
     let a = (g.met.S.Suite.formed c.args.self.now.below.below).keyring.apart in
     record {
       unused = search rules;
-      told = struck_kept _ _ c.args.key _ _ _ a p.answer p.after refl c.args.self.now.told;
+      told = mark_kept _ _ c.args.key _ _ _ a p.answer p.after refl c.args.self.now.told;
     }
 
 pub invariant_of-self-2-clause-told : goal.invariant_of-self-2-clause-told
@@ -18,4 +18,4 @@ invariant_of-self-2-clause-told g c =
     let p = c.in_ok-destroy.ensures in
     let t = c.args.self.now.told in
     let a = (g.met.S.Suite.formed c.args.self.now.below.below).keyring.apart in
-    search (rules, struck_kept)
+    search (rules, mark_kept)
