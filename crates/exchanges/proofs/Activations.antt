@@ -9,7 +9,7 @@ use Rattle.frame.specs.Frames.{Contents, bytes_after_sep, act_req, act_res, vfy_
 use Rattle.suite.specs.declared.limits.TheConstants.{MAX_DATA}
 use Rattle.suite.specs.declared.types.Role.TheVariants.{Sender, Recipient}
 use Rattle.suite.specs.Meanings.{Meaning, Keyring, keyring_of, IsBytes, IsBytes16, IsWellFormed}
-use Rattle.suite.specs.Schemes.{Scheme, IsUnder, IsLawful, is_role}
+use Rattle.suite.specs.Schemes.{Scheme, IsUnder, IsLawful, DependsOnRootAndValue, is_role}
 use Rattle.suite.proofs.CallLaws.{room_enough}
 use Rattle.protocol.specs.declared.states.State.{State}
 use Rattle.protocol.specs.declared.states.State.TheVariants.{EstablishedSender, EstablishedRecipient, ConfirmedSse}
@@ -19,7 +19,7 @@ use Rattle.protocol.specs.Steps.{frame_bytes}
 use Rattle.protocol.specs.Calls.{Call, IsGivenBytes, invoke, frame, CallEffect, call_effect}
 use Rattle.histories.specs.Histories.{History, entry_of, starts, has_confirmation, is_answered, data_sent, data_handed}
 use Rattle.exchanges.specs.Peers.{Supply, Peers, new_peer, last_answer, SetUp, act_req_sent, act_res_sent, vfy_req_sent, vfy_res_sent, vfy_res_received, activated_peers}
-use Rattle.exchanges.specs.Exchanges.{DependsOnRootAndValue, KindsDependOnRootAndValue, NewIsFresh, IsReady, other_role, IsInLink, IsMatched, LinkSucceeds, SharesSecret, SecretSucceeds, calls_in, IsRun, SomeIsReady}
+use Rattle.exchanges.specs.Exchanges.{NewIsFresh, IsReady, other_role, IsInLink, IsMatched, LinkSucceeds, SharesSecret, SecretSucceeds, calls_in, IsRun, SomeIsReady}
 use Rattle.exchanges.proofs.Shapes.{bare, agreed_suite, Base, base_of, bare_under, agreed_under, linked_in, one_gone, both_gone, selecting, sharing, linking, Clears}
 use Rattle.exchanges.proofs.Turns.{stepped, ask_is, reply_is, check_is, confirm_sse, confirm_sch, complete_sse, complete_sch, tell_is}
 use Rattle.exchanges.proofs.Joints.{Joint, new_joint, joined}
@@ -419,9 +419,6 @@ link_succeeds s law free x r =
     }
 
 -- The premises.
-
-pub kinds_fit : KindsDependOnRootAndValue
-kinds_fit k = record { checks = λ root r r' value serial serial' role u u'. refl; links = λ root r r' value serial serial' u u'. refl }
 
 pub new_fresh : NewIsFresh
 new_fresh means formed none = record { formed = formed; idle = refl; no_live = none; no_secret = refl; no_link = refl; none_held = refl }

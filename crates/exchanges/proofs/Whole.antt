@@ -1,12 +1,11 @@
 -- What specs/ claims of exchanges, whole.
 use Rattle.exchanges.specs.Exchanges.{ExchangePromises}
-use Rattle.exchanges.proofs.Activations.{kinds_fit, new_fresh, some_ready, link_succeeds, secret_succeeds}
+use Rattle.exchanges.proofs.Activations.{new_fresh, some_ready, link_succeeds, secret_succeeds}
 use Rattle.exchanges.proofs.Records.{record_passes, records_pass}
 use Rattle.exchanges.proofs.Ends.{transfers_succeed, termination_succeeds, link_ends, secret_ends}
 
 pub undisturbed_succeeds : ExchangePromises
 undisturbed_succeeds = record {
-  kinds_fit = kinds_fit;
   news_fresh = new_fresh;
   some_ready = some_ready;
   links = link_succeeds;

@@ -7,9 +7,8 @@ use Rattle.suite.specs.declared.limits.TheConstants.{MAX_DATA}
 use Rattle.suite.specs.declared.types.Role.{Role}
 use Rattle.suite.specs.declared.types.Role.TheVariants.{Sender, Recipient}
 use Rattle.suite.specs.declared.types.KeyKind.TheVariants.{LinkKey}
-use Rattle.suite.specs.Meanings.{Meaning, Keyring, IsBytes, IsBytes16, IsWellFormed, value_in}
-use Rattle.suite.specs.Schemes.{Scheme, IsUnder, IsLawful}
-use Rattle.suite_of.specs.Kinds.{KindFunctions, scheme_of}
+use Rattle.suite.specs.Meanings.{Meaning, IsBytes, IsBytes16, IsWellFormed, value_in}
+use Rattle.suite.specs.Schemes.{Scheme, IsLawful, DependsOnRootAndValue}
 use Rattle.protocol.specs.declared.states.State.{State}
 use Rattle.protocol.specs.declared.states.State.TheVariants.{Idle, ConfirmedSse, ConfirmedSch}
 use Rattle.protocol.specs.Models.{Model, new_model}
@@ -17,18 +16,6 @@ use Rattle.protocol.specs.Calls.{Call, IsGivenBytes, retrieve_secret, call_effec
 use Rattle.histories.specs.Histories.{History, IsFresh, entity_after, history, has_confirmation, is_answered, data_sent, data_handed}
 use Rattle.histories.specs.Sessions.{encs_sent, GetsOnlyCopies, RunningSession}
 use Rattle.exchanges.specs.Peers.{Peer, Peers, last_answer, last_written, after_frame, SetUp, activated_peers, Transfer, from_one, from_other, swapped_peers, after_send, after_transfer, after_transfers, data_from_one, data_from_other, terminated_peers}
-
--- What is asked of a kind of suite beyond its laws: under one root, check values and link keys depend on the value of the shared secret alone,
--- whatever serials and other keys the suites have. Two peers may have made different keys before, and are to make the same ones now.
-pub record DependsOnRootAndValue (s : Scheme) : Type 0 where
-  pub checks : (root : List ℕ) (k k' : Keyring) (value : List ℕ) (serial serial' role : ℕ) → IsUnder root k →
-      IsUnder root k' → s.check_of k serial value role ≡ s.check_of k' serial' value role
-  pub links : (root : List ℕ) (k k' : Keyring) (value : List ℕ) (serial serial' : ℕ) → IsUnder root k →
-      IsUnder root k' → s.link_of k serial value ≡ s.link_of k' serial' value
-
--- so it is with every kind of the form that `suite_of` gives
-abbrev pub KindsDependOnRootAndValue : Type 0
-KindsDependOnRootAndValue = (k : KindFunctions) → DependsOnRootAndValue (scheme_of k)
 
 -- a new entity over a suite without keys is fresh, so that every promise holds of its runs
 abbrev pub NewIsFresh : Type 0
@@ -242,7 +229,6 @@ SomeIsReady = (x : SetUp) × IsReady Sch x
 
 -- all of it together
 pub record ExchangePromises : Type 0 where
-  pub kinds_fit : KindsDependOnRootAndValue
   pub news_fresh : NewIsFresh
   pub some_ready : SomeIsReady
   pub links : LinkSucceeds

@@ -103,3 +103,11 @@ pub record IsOneKind (s t : Scheme) : Type 0 where
       s.seal_of k serial value role n plain ≡ t.seal_of k serial value role n plain
   pub opens : (k : Keyring) (value payload : List ℕ) (serial : ℕ) → IsFormed k → IsBytes16 value →
       IsBytes payload → s.open_of k serial value payload ≡ t.open_of k serial value payload
+
+-- What is asked of a kind of suite beyond its laws: under one root, check values and link keys depend on the value of the shared secret alone,
+-- whatever serials and other keys the suites have. Two peers may have made different keys before, and must get equal ones.
+pub record DependsOnRootAndValue (s : Scheme) : Type 0 where
+  pub checks : (root : List ℕ) (k k' : Keyring) (value : List ℕ) (serial serial' role : ℕ) → IsUnder root k →
+      IsUnder root k' → s.check_of k serial value role ≡ s.check_of k' serial' value role
+  pub links : (root : List ℕ) (k k' : Keyring) (value : List ℕ) (serial serial' : ℕ) → IsUnder root k →
+      IsUnder root k' → s.link_of k serial value ≡ s.link_of k' serial' value

@@ -1,6 +1,7 @@
 ghost use Rattle.std.specs.Prelude.{◌≡◌, ℕ, ◌<◌, [], length, slice_index, Some, None, MatchResult};
 ghost use Rattle.suite.specs.declared.types.Denial.TheVariants.{Unknown};
 ghost use Rattle.suite.specs.Meanings.{value_in};
+ghost use Rattle.suite.specs.Schemes.{DependsOnRootAndValue};
 ghost use Rattle.suite.proofs.ByteLaws.{bytes16_from};
 ghost use Rattle.key_store.proofs.StoreLaws.{kept_formed};
 ghost use Rattle.key_store.specs.Stores.{keys_of};
@@ -29,7 +30,10 @@ impl<K: Kind> SuiteOf<K> {
 
     /// A suite with that root and no key. Its last serial is 4,294,967,295.
     pub fn new(root: [u8; 16]) -> SuiteOf<K>
-        ensures { meaning_of result ≡ record { root = root; last = 4294967295; newest = 0; live = [] } }
+        ensures meaning { meaning_of result ≡ record { root = root; last = 4294967295; newest = 0; live = [] } }
+
+        // What exchanges ask of a kind of suite beyond its laws: it holds of every kind.
+        ensures depends { DependsOnRootAndValue (scheme_of K.functions) }
     {
         SuiteOf {
             root,
