@@ -182,7 +182,7 @@ pub record AllArrives (s : Scheme) (x : SetUp) (d : Peers) (transfers : List Tra
 abbrev pub TransfersSucceed : Type 0
 TransfersSucceed = (s : Scheme) → IsLawful s → DependsOnRootAndValue s → (x : SetUp) → IsReady Sch x →
     (transfers : List Transfer) → AllRecordData transfers → s.first + length transfers ≤ s.final →
-        AllArrives s x (after_transfers s (activated_peers s Sch x) transfers) transfers
+    AllArrives s x (after_transfers s (activated_peers s Sch x) transfers) transfers
 
 -- Termination.
 
@@ -197,7 +197,7 @@ pub record IsTerminated (d : Peers) : Type 0 where
 abbrev pub TerminationSucceeds : Type 0
 TerminationSucceeds =
     (s : Scheme) (service : Service) (d : Peers) → IsConfirmed service d.one.model →
-    IsConfirmed service d.other.model → 
+    IsConfirmed service d.other.model →
     IsTerminated (terminated_peers s d)
 
 -- neither suite has a live key
@@ -215,7 +215,7 @@ pub record EndsWell (s : Scheme) (d : Peers) : Type 0 where
 abbrev pub LinkEnds : Type 0
 LinkEnds = (s : Scheme) → IsLawful s → DependsOnRootAndValue s → (x : SetUp) → IsReady Sch x →
     (transfers : List Transfer) → AllRecordData transfers → s.first + length transfers ≤ s.final →
-        EndsWell s (after_transfers s (activated_peers s Sch x) transfers)
+    EndsWell s (after_transfers s (activated_peers s Sch x) transfers)
 
 -- and a shared secret
 abbrev pub SecretEnds : Type 0

@@ -91,7 +91,7 @@ pub data EndedSession (s : Scheme) (m : Model) : List Call → ℕ → List ℕ 
   ends : {calls : List Call} {n : ℕ} {value : List ℕ} {since : History} (c : Call) →
       RunningSession s m calls n value since
       → is_member n (serials_destroyed_in (next_entry s m calls c).answer) ≡ true →
-          EndedSession s m (c ∷ calls) n value (next_entry s m calls c ∷ since)
+      EndedSession s m (c ∷ calls) n value (next_entry s m calls c ∷ since)
   stays : {calls : List Call} {n : ℕ} {value : List ℕ} {since : History} (c : Call) →
       EndedSession s m calls n value since
       → EndedSession s m (c ∷ calls) n value since

@@ -139,7 +139,7 @@ EveryRun =
 abbrev pub EverySession : Type 0
 EverySession =
     (s : Scheme) → IsLawful s → (m : Model) → IsFresh m → (calls : List Call) →
-    AllByRecursion IsGivenBytes calls → 
+    AllByRecursion IsGivenBytes calls →
     (n : ℕ) (since : History) → Runs n (history s m calls) since ⊎ HasEnded n (history s m calls) since →
     (value : List ℕ) × LinkSession s m calls n value since
 
@@ -177,8 +177,6 @@ RecordsInOrder = (s t : Scheme) → IsLawful s → IsLawful t → OpensAlike s t
     (m m' : Model) → IsFresh m → IsFresh m' →
     (calls calls' : List Call) → AllByRecursion IsGivenBytes calls → AllByRecursion IsGivenBytes calls' →
     (value : List ℕ) (n n' : ℕ) (mine theirs : History) (one : LinkSession s m calls n value mine) (other : LinkSession t m' calls' n' value theirs) →
-        
-        
     GetsOnlyCopies (encs_sent mine ++ encs_sent theirs) mine →
     Follows (data_handed mine) (data_sent theirs) (enc_numbers s (keyring_at one) n value (encs_sent mine)) (enc_numbers t (keyring_at other) n' value (encs_sent theirs))
 

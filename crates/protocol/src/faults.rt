@@ -181,8 +181,8 @@ where
 {
     ghost from_gives = { λ x r. ⟦<Cause as From<E>>⟧.from_gives x.fault r.cause × (r.state ≡ x.state) };
 
-    fn from(met: FaultInState<E>) -> Self {
-        let FaultInState { fault, state } = met;
+    fn from(error: FaultInState<E>) -> Self {
+        let FaultInState { fault, state } = error;
         Self {
             cause: fault.into(),
             state,
@@ -201,10 +201,10 @@ pub struct FaultAtMessage<E> {
 impl From<FaultAtMessage<MachineFault>> for Fault {
     ghost from_gives = { λ x r. r ≡ record { machine = x.fault; message = x.message } };
 
-    fn from(at: FaultAtMessage<MachineFault>) -> Self {
+    fn from(error: FaultAtMessage<MachineFault>) -> Self {
         Self {
-            machine: at.fault,
-            message: at.message,
+            machine: error.fault,
+            message: error.message,
         }
     }
 }
