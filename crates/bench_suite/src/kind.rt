@@ -26,7 +26,7 @@ pub type Bench = SuiteOf<BenchKind>;
 impl Kind for BenchKind {
     ghost functions = { bench_functions };
 
-    ghost sound = { bench_lawful };
+    ghost lawful = { bench_lawful };
 
     fn numbers() -> KindNumbers {
         NUMBERS

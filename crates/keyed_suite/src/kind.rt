@@ -27,7 +27,7 @@ pub type KeyedSuite = SuiteOf<KeyedKind>;
 impl Kind for KeyedKind {
     ghost functions = { keyed_functions };
 
-    ghost sound = { keyed_lawful };
+    ghost lawful = { keyed_lawful };
 
     fn numbers() -> KindNumbers {
         NUMBERS

@@ -160,21 +160,21 @@ kept s law {m} H g o quiet = record {
     made_once = H.books.anew;
     destroyed_once = H.books.once;
     destroyed_made = within_difference _ _ H.books.real;
-    none_idle = idle_empty s H.sound;
-    put_away = none_left s H.sound;
+    none_idle = idle_empty s H.form;
+    put_away = none_left s H.form;
   };
   sessions = record {
     runs = λ e. H.some (linked_at m e);
     confirmed = λ n since r. confirmed_at m.state (H.all n since r).linked;
-    key = λ n since r. link_live s H.sound (H.all n since r);
+    key = λ n since r. link_live s H.form (H.all n since r);
     link = λ n since r. sym (H.all n since r).key;
     number = λ n since r. (H.all n since r).number;
-    last = number_below s H.sound;
+    last = number_below s H.form;
     handed = g;
   };
   told = told s H o quiet;
-  suite = asks_well s law H.sound;
-  anew = idle_fresh s (asks_well s law H.sound).formed H.sound;
+  suite = asks_well s law H.form;
+  anew = idle_fresh s (asks_well s law H.form).formed H.form;
 }
 
 pub every_run : EveryRun

@@ -38,7 +38,7 @@ ended s law m fresh calls data_given n value since x =
     let k = keyring_of m'.means in
     let H = holds s law m fresh calls data_given in
     let fits = H.all n since x.runs in
-    let formed = (asks_well s law H.sound).formed.keyring in
+    let formed = (asks_well s law H.form).formed.keyring in
     let told : Ledger s value (end_of m') since m'.number m'.held = fits.ledger value (sym (ap (λ z. value_in m'.means.live LinkKey z) fits.key) ∙ x.key) in
     record {
       number = m'.number;

@@ -26,7 +26,7 @@ pub record Fits (s : Scheme) (m : Model) (n : ℕ) (since : History) : Type 0 wh
 
 -- what holds after a history
 pub record Holds (s : Scheme) (m : Model) (h : History) : Type 0 where
-  pub sound : HasForm s m
+  pub form : HasForm s m
   pub books : Books m.means.newest (live_serials m.means) (serials_made h) (serials_destroyed h)
   pub all : (n : ℕ) (since : History) → Runs n h since → Fits s m n since
   pub some : in_sch m ≡ true → SomeRuns h
@@ -113,11 +113,11 @@ module _ (s : Scheme) (c : Call) {m : Model} {h : History} (H : Holds s m h) (t 
   books_ended new live k cl = rw (new, live, k) (books_cleared _ _ _ cl H.books)
 
   held_on : Did s c m t → Holds s t.model (now ∷ h)
-  held_on (outside S em o o' q) = record { sound = S; books = books_silent em q; all = fits_none o q.begins; some = λ x. clash _ o' x }
-  held_on (inside S em i i' el ee q num act) = record { sound = S; books = books_silent em q; all = fits_inside i' em el ee q.begins num act; some = λ x. some_inside q.destroys (H.some i) }
-  held_on (agrees S o o' q z) = record { sound = S; books = books_next q; all = fits_none o z; some = λ x. clash _ o' x }
-  held_on (links S o i q z l num nh) = record { sound = S; books = books_next q; all = fits_link o i z l num nh; some = λ x. (m.means.newest + 1, ([], starts (omega arith) z)) }
-  held_on (ends S o new live k z cl d) = record { sound = S; books = books_ended new live k cl; all = fits_ends z d; some = λ x. clash _ o x }
+  held_on (outside S em o o' q) = record { form = S; books = books_silent em q; all = fits_none o q.begins; some = λ x. clash _ o' x }
+  held_on (inside S em i i' el ee q num act) = record { form = S; books = books_silent em q; all = fits_inside i' em el ee q.begins num act; some = λ x. some_inside q.destroys (H.some i) }
+  held_on (agrees S o o' q z) = record { form = S; books = books_next q; all = fits_none o z; some = λ x. clash _ o' x }
+  held_on (links S o i q z l num nh) = record { form = S; books = books_next q; all = fits_link o i z l num nh; some = λ x. (m.means.newest + 1, ([], starts (omega arith) z)) }
+  held_on (ends S o new live k z cl d) = record { form = S; books = books_ended new live k cl; all = fits_ends z d; some = λ x. clash _ o x }
 
   -- a call made while a session runs starts none
   pub starts_none : Did s c m t → SomeRuns h → session_started t.answer ≡ 0
@@ -131,21 +131,21 @@ not_yet : {X : Type 0} {n : ℕ} {since : History} → Runs n [] since → X
 not_yet = elim [ ]
 
 module _ (s : Scheme) (law : IsLawful s) (m : Model) where
-  sound_first : IsFresh m → HasForm s m
-  sound_first f = rw (f.no_live, f.idle, f.none_held, f.no_secret, f.no_link) (at_idle (base_of f.formed))
+  form_first : IsFresh m → HasForm s m
+  form_first f = rw (f.no_live, f.idle, f.none_held, f.no_secret, f.no_link) (at_idle (base_of f.formed))
 
   holds_first : IsFresh m → Holds s m []
   holds_first f =
       let books : Books m.means.newest (live_serials m.means) [] [] = rw f.no_live (no_books _) in
-      record { sound = sound_first f; books = books; all = λ n since r. not_yet r; some = λ x. clash (in_sch m) (ap (λ z. is_in_state (record m { state = z }) ConfirmedSch) f.idle) x }
+      record { form = form_first f; books = books; all = λ n since r. not_yet r; some = λ x. clash (in_sch m) (ap (λ z. is_in_state (record m { state = z }) ConfirmedSch) f.idle) x }
 
   pub holds : IsFresh m → (calls : List Call) → AllByRecursion IsGivenBytes calls → Holds s (entity_after s m calls) (history s m calls)
   holds f [] given = holds_first f
-  holds f (c ∷ before) given = held_on s c (holds f before given.1) (call_effect s (entity_after s m before) c) (did s law c given.0 (holds f before given.1).sound)
+  holds f (c ∷ before) given = held_on s c (holds f before given.1) (call_effect s (entity_after s m before) c) (did s law c given.0 (holds f before given.1).form)
 
   -- so no session starts while one runs
   pub orderly : IsFresh m → (calls : List Call) → AllByRecursion IsGivenBytes calls → Orderly (history s m calls)
   orderly f [] given = tt
   orderly f (c ∷ before) given =
       let H = holds f before given.1 in
-      (starts_none s c H (call_effect s (entity_after s m before) c) (did s law c given.0 H.sound), orderly f before given.1)
+      (starts_none s c H (call_effect s (entity_after s m before) c) (did s law c given.0 H.form), orderly f before given.1)

@@ -39,5 +39,5 @@ pub trait Kind {
         ensures { take functions.field_length result ≡ functions.field_of value.now body.now };
 
     // What every kind owes.
-    ghost sound: { IsLawfulKind functions };
+    ghost lawful: { IsLawfulKind functions };
 }

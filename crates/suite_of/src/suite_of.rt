@@ -73,7 +73,7 @@ impl<K: Kind> HasMeaning for SuiteOf<K> {
 impl<K: Kind> Suite for SuiteOf<K> {
     ghost scheme = { scheme_of K.functions };
 
-    ghost lawful = { lawful_scheme K.functions K.sound };
+    ghost lawful = { lawful_scheme K.functions K.lawful };
 
     ghost formed = { λ x. kept_formed x.root x.keys (bytes16_from x.root x.long x.bytes) };
 
