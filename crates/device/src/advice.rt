@@ -3,7 +3,7 @@ use nfc_sec::Refusal;
 use std::fmt;
 
 #[derive(Clone, Copy)]
-pub enum Advice {
+pub(super) enum Advice {
     /// The device's program is wrong, and would be refused again.
     MendProgram,
     /// What the radio gave is no frame.
@@ -20,7 +20,7 @@ pub enum Advice {
 
 impl Advice {
     /// For the refusals 1 to 10.
-    pub fn on(refusal: Refusal) -> Advice {
+    pub(super) fn on(refusal: Refusal) -> Advice {
         match refusal {
             // 1, 2, 6, 10: buffers, seeds and the PID are the device's own.
             Refusal::ReplyBuffer | Refusal::SeedLength | Refusal::OtherPid | Refusal::SmallBuffer =>

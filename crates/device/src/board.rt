@@ -6,14 +6,14 @@ use nfc_sec::{ActivationRefusal, MAX_FRAME, Outcome, Refusal, Service};
 
 /// A link of two devices: the bytes PPi and PPt that they exchanged, the device's own and the peer's.
 #[derive(Clone, Copy)]
-pub struct Link {
-    pub own: u8,
-    pub peer: u8,
+pub(super) struct Link {
+    pub(super) own: u8,
+    pub(super) peer: u8,
 }
 
 /// What happens on a link. The bytes lie in the buffer that was lent.
 #[derive(Clone, Copy)]
-pub enum Event<'a> {
+pub(super) enum Event<'a> {
     /// The application asks for a service.
     Wanted(Service),
     /// A frame came from the peer, whole: 1 to 255 bytes.
@@ -25,7 +25,7 @@ pub enum Event<'a> {
 }
 
 /// What the main loop asks of a board. An error ends the loop, and the entity is put away.
-pub trait Board {
+pub(super) trait Board {
     type Error: Drop;
 
     /// Waits for the next link, and for the exchange of PPi and PPt; none when the device is switched off.

@@ -14,7 +14,7 @@ use nfc_sec::{
 const TRIES: usize = 3;
 
 /// An entity on a board, for one link.
-pub struct Device<'a, B, S: HasMeaning> {
+pub(super) struct Device<'a, B, S: HasMeaning> {
     board: &'a mut B,
     entity: Entity<S>,
     // It holds only what goes over the link, so it need not be cleared.
@@ -30,7 +30,7 @@ pub struct Device<'a, B, S: HasMeaning> {
 }
 
 impl<'a, B: Board, S: Suite> Device<'a, B, S> {
-    pub fn new(board: &'a mut B, entity: Entity<S>) -> Device<'a, B, S> {
+    pub(super) fn new(board: &'a mut B, entity: Entity<S>) -> Device<'a, B, S> {
         Device {
             board,
             entity,
@@ -42,7 +42,7 @@ impl<'a, B: Board, S: Suite> Device<'a, B, S> {
     }
 
     /// Puts the entity away. Returns its suite, and the serials of the keys destroyed, 0 for none.
-    pub fn put_away(self) -> (S, Destroyed) {
+    pub(super) fn put_away(self) -> (S, Destroyed) {
         let Device {
             board: _,
             entity,
@@ -55,7 +55,7 @@ impl<'a, B: Board, S: Suite> Device<'a, B, S> {
     }
 
     /// The main loop: serves the link until it is released.
-    pub fn run(&mut self) -> Result<(), B::Error> {
+    pub(super) fn run(&mut self) -> Result<(), B::Error> {
         let mut buffer = [0; MAX_FRAME];
         // Every loop is proved to end: this one by a count that no device reaches.
         for _ in 0..u64::MAX {

@@ -1,5 +1,5 @@
-// A device with its main loop, over the board of an example. What a device of one's own takes over is `links`, `device`, `advice` and the
-// trait in `board`.
+// A device with its main loop, over the board of an example. A device of your own takes over `links`, `device`, `advice` and the trait
+// in `board`.
 #![tactic(auto)]
 
 mod advice;
