@@ -37,23 +37,23 @@ pub(super) trait Board {
         buffer: &'a mut [u8; MAX_FRAME],
     ) -> Result<Option<Event<'a>>, Self::Error>;
 
-    /// Transmits a frame, and answers whether the peer's radio acknowledged it.
+    /// Transmits a frame of 1 to 255 bytes. Returns whether the peer's radio acknowledged it.
     fn transmit(&mut self, frame: &[u8]) -> Result<bool, Self::Error>;
 
     /// Draws a seed: 16 random bytes, new each time, which nobody can foresee. Where the source fails, the seed is left as it was.
     fn draw_seed(&mut self, seed: &mut [u8; 16]) -> Result<(), Self::Error>
         ensures { OnErr result (seed.new ≡ seed.old) };
 
-    /// A record came from the peer. Its bytes are zeros afterwards.
+    /// A record came from the peer, 1 to 200 bytes. They are zeros afterwards.
     fn take_record(&mut self, record: &[u8]) -> Result<(), Self::Error>;
 
-    /// The secret that both devices share now. Its bytes are zeros afterwards.
+    /// The secret that both devices share now. The bytes are zeros afterwards.
     fn take_secret(&mut self, secret: &[u8; 16]) -> Result<(), Self::Error>;
 
-    /// What a call confirmed, and whether the frame that it wrote was delivered, or it wrote none.
+    /// What a call confirmed (0 to 6), and whether its frame was delivered; true also where it wrote none.
     fn confirmed(&mut self, outcome: &Outcome, delivered: bool) -> Result<(), Self::Error>;
 
-    /// Why a call was refused, and what to do about it.
+    /// Why a call was refused (1 to 10), and what to do about it.
     fn refused(&mut self, refusal: Refusal, advice: Advice) -> Result<(), Self::Error>;
 
     /// Refusal 11: the link is one without NFC-SEC.
