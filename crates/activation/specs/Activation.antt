@@ -14,15 +14,15 @@ abbrev pub sec_bit : ℕ → Bool
 sec_bit pp = (pp / 128) % 2 == 1
 
 -- an exchange ends agreed, with both bytes, or refused, with a number and the byte of the offer that is returned
-pub data Answer : Type 0 where
-  agreed : (own peer : ℕ) → Answer
-  refused : (number own : ℕ) → Answer
+pub data ExchangeAnswer : Type 0 where
+  agreed : (own peer : ℕ) → ExchangeAnswer
+  refused : (number own : ℕ) → ExchangeAnswer
 
 -- the exchange of own byte and the peer's: agreed where both support NFC-SEC, else refused with number 11
-abbrev pub exchange_answer : ℕ → ℕ → Answer
+abbrev pub exchange_answer : ℕ → ℕ → ExchangeAnswer
 exchange_answer own peer = cond (sec_bit own && sec_bit peer) (agreed own peer) (refused 11 own)
 
 -- the code's answer by its numbers
-abbrev pub answer_of : Result Agreed Refused → Answer
+abbrev pub answer_of : Result Agreed Refused → ExchangeAnswer
 answer_of (Ok a) = agreed a.offer.own a.peer
 answer_of (Err r) = refused (refusal_number r.refusal) r.offer.own

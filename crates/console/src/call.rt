@@ -34,24 +34,24 @@ impl fmt::Display for Name {
 
 // The frame that a peer is to receive.
 #[derive(Drop)]
-pub(super) enum Heard {
+pub(super) enum Received {
     // The frame that the other peer wrote last.
     Latest,
     Bytes(Vec<u8>),
 }
 
-impl Heard {
-    fn read(heap: Global, word: &str) -> Result<Heard, Unreadable> {
+impl Received {
+    fn read(heap: Global, word: &str) -> Result<Received, Unreadable> {
         match word {
-            "<" => Ok(Heard::Latest),
-            _ => Ok(Heard::Bytes(bytes(heap, word)?)),
+            "<" => Ok(Received::Latest),
+            _ => Ok(Received::Bytes(bytes(heap, word)?)),
         }
     }
 
     fn bytes<'a>(&'a self, latest: &'a [u8]) -> &'a [u8] {
         match self {
-            Heard::Latest => latest,
-            Heard::Bytes(bytes) => bytes,
+            Received::Latest => latest,
+            Received::Bytes(bytes) => bytes,
         }
     }
 }
@@ -69,7 +69,7 @@ pub(super) enum Request {
     Secret,
     Terminate,
     Frame {
-        heard: Heard,
+        received: Received,
         seed: Vec<u8>,
     },
     Release,
@@ -96,7 +96,7 @@ impl Request {
             ["secret"] => Ok(Request::Secret),
             ["terminate"] => Ok(Request::Terminate),
             ["frame", frame, seed] => Ok(Request::Frame {
-                heard: Heard::read(heap, frame)?,
+                received: Received::read(heap, frame)?,
                 seed: bytes(heap, seed)?,
             }),
             _ => Err(Unreadable::NoSuchLine),
@@ -115,8 +115,8 @@ impl Request {
             Request::Data => Call::RetrieveData,
             Request::Secret => Call::RetrieveSecret,
             Request::Terminate => Call::Terminate,
-            Request::Frame { heard, seed } => Call::Frame {
-                bytes: heard.bytes(latest),
+            Request::Frame { received, seed } => Call::Frame {
+                bytes: received.bytes(latest),
                 beside: Ancillary { seed },
             },
             Request::Release => Call::Release,

@@ -73,7 +73,7 @@ impl<'a, B: Board, S: Suite> Device<'a, B, S> {
     fn step(&mut self, event: Event<'_>) -> Result<(), B::Error> {
         match event {
             Event::Wanted(service) => self.invoke(service),
-            Event::Frame(frame) => self.hear(frame),
+            Event::Frame(frame) => self.receive(frame),
             Event::Record(plain) => self.send(plain),
             Event::Done => self.terminate(),
         }
@@ -90,7 +90,7 @@ impl<'a, B: Board, S: Suite> Device<'a, B, S> {
     }
 
     // Each frame comes with a new seed: which one is an ACT_REQ is not known before.
-    fn hear(&mut self, frame: &[u8]) -> Result<(), B::Error> {
+    fn receive(&mut self, frame: &[u8]) -> Result<(), B::Error> {
         self.board.draw_seed(&mut self.seed)?;
         let beside = Ancillary { seed: &self.seed };
         let answer = self.entity.frame(frame, beside, &mut self.reply);

@@ -3,7 +3,7 @@ use Rattle.std.specs.Prelude.{ℕ}
 use Rattle.protocol.specs.Models as m
 use Rattle.protocol.specs.Calls as c
 use Rattle.entity.specs.declared.ancillary.Ancillary.{Ancillary}
-use Rattle.entity.specs.declared.ancillary.Fitted.{Fitted}
+use Rattle.entity.specs.declared.ancillary.FittedAncillary.{FittedAncillary}
 use Rattle.entity.specs.declared.call.Call.{Call}
 use Rattle.entity.specs.declared.call.Call.TheVariants.{Invoke, Send, RetrieveData, RetrieveSecret, Terminate, Frame, Release}
 
@@ -12,7 +12,7 @@ abbrev pub ancillary_of : Ancillary → m.Ancillary
 ancillary_of beside = record { seed = beside.seed.now }
 
 -- the same, of what is known to fit
-abbrev pub fitted_ancillary : Fitted → m.Ancillary
+abbrev pub fitted_ancillary : FittedAncillary → m.Ancillary
 fitted_ancillary beside = record { seed = beside.seed.now }
 
 -- a call, with the length of the buffer that it is lent

@@ -17,16 +17,16 @@ pub struct Ancillary<'a> {
 
 // The same with its length checked.
 #[derive(Clone, Copy)]
-pub(crate) struct Fitted<'a> {
+pub(crate) struct FittedAncillary<'a> {
     pub(crate) seed: &'a [u8; 16],
 }
 
 impl<'a> Ancillary<'a> {
     // Checks the length.
-    pub(crate) fn fit(self) -> Result<Fitted<'a>, Refusal>
+    pub(crate) fn fit(self) -> Result<FittedAncillary<'a>, Refusal>
         ensures { result_map_both fitted_ancillary (λ e. e) result ≡ cond (is_wrong_seed self.entry.seed.now) (Err SeedLength) (Ok (ancillary_of self.entry)) }
     {
-        Ok(Fitted {
+        Ok(FittedAncillary {
             seed: seed_bytes(self.seed)?,
         })
     }

@@ -9,7 +9,7 @@ use Rattle.frame.specs.Frames.{Contents, bytes_after_sep, act_req, act_res, vfy_
 use Rattle.suite.specs.declared.limits.TheConstants.{MAX_DATA}
 use Rattle.suite.specs.declared.types.Role.TheVariants.{Sender, Recipient}
 use Rattle.suite.specs.Meanings.{Meaning, Keyring, keyring_of, IsBytes, IsBytes16, IsWellFormed}
-use Rattle.suite.specs.Schemes.{Scheme, IsUnder, IsLawful, DependsOnRootAndValue, is_role}
+use Rattle.suite.specs.Schemes.{Scheme, IsFormedUnder, IsLawful, DependsOnRootAndValue, is_role}
 use Rattle.suite.proofs.CallLaws.{room_enough}
 use Rattle.protocol.specs.declared.states.State.{State}
 use Rattle.protocol.specs.declared.states.State.TheVariants.{EstablishedSender, EstablishedRecipient, ConfirmedSse}
@@ -120,10 +120,10 @@ module _ (s : Scheme) (law : IsLawful s) (free : DependsOnRootAndValue s) (root 
   abbrev their_bare : Keyring
   their_bare = keyring_of (bare root last' n')
 
-  mine_first : IsUnder root mine_bare
+  mine_first : IsFormedUnder root mine_bare
   mine_first = bare_under root last n base.root_is
 
-  their_first : IsUnder root their_bare
+  their_first : IsFormedUnder root their_bare
   their_first = bare_under root last' n' base.root_is
 
   -- the Sender's offer, and the shared secret that the Recipient makes of it
@@ -150,10 +150,10 @@ module _ (s : Scheme) (law : IsLawful s) (free : DependsOnRootAndValue s) (root 
   abbrev their_ring : Keyring
   their_ring = keyring_of (agreed_suite root last' (n' + 1) value)
 
-  mine_under : IsUnder root mine_ring
+  mine_under : IsFormedUnder root mine_ring
   mine_under = agreed_under root last (n + 1) value base.root_is (omega arith) value16
 
-  their_under : IsUnder root their_ring
+  their_under : IsFormedUnder root their_ring
   their_under = agreed_under root last' (n' + 1) value base.root_is (omega arith) value16
 
   -- the Recipient's offer, and the check values that the Sender and the Recipient write
@@ -166,7 +166,7 @@ module _ (s : Scheme) (law : IsLawful s) (free : DependsOnRootAndValue s) (root 
   abbrev replied : List ℕ
   replied = s.check_of their_ring (n' + 1) value 2
 
-  -- the Sender comes to the same secret, and both to the same check values
+  -- the Sender makes the same secret, and both the same check values
   agreed : s.secret_of mine_bare 1 seed reply ≡ value
   agreed = law.agrees root mine_bare their_bare mine_bare their_ring seed answering mine_first their_first mine_first their_under seed_is answering_is
 
@@ -181,10 +181,10 @@ module _ (s : Scheme) (law : IsLawful s) (free : DependsOnRootAndValue s) (root 
   fits : (v : Service) (contents : Contents) → length (bytes_after_sep contents) ≤ 65 → ltb MAX_FRAME (length (frame_bytes v contents)) ≡ false
   fits v contents h = le-ltb MAX_FRAME (length (frame_bytes v contents)) (omega arith)
 
-  offer_most : (k : Keyring) (own : List ℕ) → IsUnder root k → IsBytes16 own → length (s.offer_of k own) ≤ 64
+  offer_most : (k : Keyring) (own : List ℕ) → IsFormedUnder root k → IsBytes16 own → length (s.offer_of k own) ≤ 64
   offer_most k own u h = let long = law.offer_long k own u.formed h in let bound = law.offer_bound in omega arith
 
-  check_most : (k : Keyring) (serial role : ℕ) → IsUnder root k → is_role role ≡ true → length (s.check_of k serial value role) ≤ 65
+  check_most : (k : Keyring) (serial role : ℕ) → IsFormedUnder root k → is_role role ≡ true → length (s.check_of k serial value role) ≤ 65
   check_most k serial role u ok =
       let long = law.check_long k value serial role u.formed value16 ok in
       let bound = law.check_bound in
@@ -347,8 +347,8 @@ module _ (s : Scheme) (law : IsLawful s) (free : DependsOnRootAndValue s) (root 
           theirs = refl;
           mine_in = record { state = refl; service = refl };
           theirs_in = record { state = refl; service = refl };
-          mine_told = ap (λ t. is_answered t.answer) told;
-          theirs_told = ap (λ t. is_answered t.answer) told';
+          mine_answered = ap (λ t. is_answered t.answer) told;
+          theirs_answered = ap (λ t. is_answered t.answer) told';
           long = ap (λ t. length t.reply) told ∙ value16.long;
           same = ap (λ t. t.reply) told' ∙ sym (ap (λ t. t.reply) told);
         };

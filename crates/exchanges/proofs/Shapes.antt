@@ -8,7 +8,7 @@ use Rattle.suite.specs.declared.types.Role.TheVariants.{Sender}
 use Rattle.suite.specs.declared.types.KeyKind.TheVariants.{SharedSecret, LinkKey}
 use Rattle.suite.specs.Meanings.{Key, Meaning, IsBytes16, IsWellFormed, keyring_of, value_in, value_of}
 use Rattle.suite.proofs.KeyLaws.{value_is, value_added}
-use Rattle.suite.specs.Schemes.{IsUnder}
+use Rattle.suite.specs.Schemes.{IsFormedUnder}
 use Rattle.protocol.specs.declared.states.State.{State}
 use Rattle.protocol.specs.declared.states.State.TheVariants.{Select, ConfirmedSch}
 use Rattle.exchanges.specs.Exchanges.{IsInLink}
@@ -52,11 +52,11 @@ base_of f = record { root_is = f.keyring.root; below = f.newest; word = f.last }
 
 -- keyrings under that root: of a suite without a key, and of one with a shared secret
 
-pub bare_under : (root : List ℕ) (last newest : ℕ) → IsBytes16 root → IsUnder root (keyring_of (bare root last newest))
+pub bare_under : (root : List ℕ) (last newest : ℕ) → IsBytes16 root → IsFormedUnder root (keyring_of (bare root last newest))
 bare_under root last newest root_is = record { formed = record { root = root_is; values = tt; serials = tt; apart = tt }; same = refl }
 
 pub agreed_under : (root : List ℕ) (last serial : ℕ) (value : List ℕ) → IsBytes16 root → 0 < serial → IsBytes16 value
-    → IsUnder root (keyring_of (agreed_suite root last serial value))
+    → IsFormedUnder root (keyring_of (agreed_suite root last serial value))
 agreed_under root last serial value root_is some v =
     let low : 1 ≤ serial = some in
     let self : serial ≤ serial = omega arith in

@@ -12,8 +12,8 @@ undisturbed_succeeds = record {
   secrets = secret_succeeds;
   record_passes = record_passes;
   records_pass = records_pass;
-  talks = transfers_succeed;
-  partings = termination_succeeds;
+  transfers = transfers_succeed;
+  terminations = termination_succeeds;
   link_ends = link_ends;
   secret_ends = secret_ends;
 }

@@ -94,7 +94,7 @@ pub record IsJoined (s : Scheme) (x : SetUp) (value : List ℕ) (d : Peers) : Ty
   pub mine_copies : GetsOnlyCopies (encs_sent mine.since ++ encs_sent theirs.since) mine.since
   pub their_copies : GetsOnlyCopies (encs_sent theirs.since ++ encs_sent mine.since) theirs.since
 
--- both in Confirmed_SCH with confirmation 1, matched at the first number and joined, by one value, and no record was sent or handed out yet
+-- both in Confirmed_SCH with confirmation 1, matched at the first number and joined, by one value, and no record was sent or handed over yet
 pub record IsLinked (s : Scheme) (x : SetUp) (d : Peers) : Type 0 where
   pub value : List ℕ
   pub mine : has_confirmation 1 (last_answer d.one.past) ≡ true
@@ -116,8 +116,8 @@ pub record SharesSecret (s : Scheme) (d : Peers) (room : ℕ) : Type 0 where
   pub theirs : has_confirmation 1 (last_answer d.other.past) ≡ true
   pub mine_in : IsConfirmed Sse d.one.model
   pub theirs_in : IsConfirmed Sse d.other.model
-  pub mine_told : is_answered (call_effect s d.one.model (retrieve_secret room)).answer ≡ true
-  pub theirs_told : is_answered (call_effect s d.other.model (retrieve_secret room)).answer ≡ true
+  pub mine_answered : is_answered (call_effect s d.one.model (retrieve_secret room)).answer ≡ true
+  pub theirs_answered : is_answered (call_effect s d.other.model (retrieve_secret room)).answer ≡ true
   pub long : length (call_effect s d.one.model (retrieve_secret room)).reply ≡ 16
   pub same : (call_effect s d.other.model (retrieve_secret room)).reply ≡ (call_effect s d.one.model (retrieve_secret room)).reply
 
@@ -235,7 +235,7 @@ pub record ExchangePromises : Type 0 where
   pub secrets : SecretSucceeds
   pub record_passes : RecordPasses
   pub records_pass : RecordsPass
-  pub talks : TransfersSucceed
-  pub partings : TerminationSucceeds
+  pub transfers : TransfersSucceed
+  pub terminations : TerminationSucceeds
   pub link_ends : LinkEnds
   pub secret_ends : SecretEnds

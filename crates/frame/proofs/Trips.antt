@@ -12,7 +12,7 @@ use Rattle.frame.specs.declared.faults.FaultCode.{FaultCode}
 use Rattle.frame.specs.declared.faults.Refusal.{Refusal}
 use Rattle.frame.specs.Numbers.{service_code, message_code, codec_code}
 use Rattle.frame.specs.Frames.{Contents, act_req, act_res, vfy_req, vfy_res, enc, tmn, error, FrameParts, kind_of, bytes_after_sep, sep, wire_bytes}
-use Rattle.frame.specs.Reading.{rfu_bits, svc_bits, msg_bits, find_code, all_services, all_kinds, service_with, kind_with, service_and_kind, sep_reading, contents_reading, Reading, message, refused, reading_of_contents, reading_of_sep, reading}
+use Rattle.frame.specs.Reading.{rfu_bits, svc_bits, msg_bits, first_with_code, all_services, all_kinds, service_with, kind_with, service_and_kind, sep_reading, contents_reading, Reading, message, refused, reading_of_contents, reading_of_sep, reading}
 use Rattle.buffers.specs.Buffers.{with_front, length_result, buffer_after}
 use Rattle.frame.specs.Writing.{is_tmn_with_payload, writing_result, numbered_result, ReadsBack, WritesAgain}
 
@@ -21,12 +21,12 @@ never z = absurd (omega arith)
 
 -- From bytes to a message and back.
 
-coded_at : {A : Type 0} (code : A → ℕ) (more : List A) (n : ℕ) (b a : A) → (find_code code more n ≡ Some a → n ≡ code a) → (t : Bool) → eqb n (code b) ≡ t → cond t (Some b) (find_code code more n) ≡ Some a → n ≡ code a
+coded_at : {A : Type 0} (code : A → ℕ) (more : List A) (n : ℕ) (b a : A) → (first_with_code code more n ≡ Some a → n ≡ code a) → (t : Bool) → eqb n (code b) ≡ t → cond t (Some b) (first_with_code code more n) ≡ Some a → n ≡ code a
 coded_at code more n b a later true q r = let same : b ≡ a = cc in eqb-true n (code b) q ∙ ap code same
 coded_at code more n b a later false q r = later r
 
 -- what is found under a code has that code
-coded_is : {A : Type 0} (code : A → ℕ) (some : List A) (n : ℕ) (a : A) → find_code code some n ≡ Some a → n ≡ code a
+coded_is : {A : Type 0} (code : A → ℕ) (some : List A) (n : ℕ) (a : A) → first_with_code code some n ≡ Some a → n ≡ code a
 coded_is code [] n a e = never (cc)
 coded_is code (b ∷ more) n a e = coded_at code more n b a (coded_is code more n a) (eqb n (code b)) refl e
 

@@ -31,9 +31,9 @@ abbrev pub msg_bits : ℕ → ℕ
 msg_bits b = b % 16
 
 -- the first of a list whose code is n
-abbrev pub find_code : {A : Type 0} → (A → ℕ) → List A → ℕ → Option A
-find_code code [] n = None
-find_code code (a ∷ as') n = cond (n == code a) (Some a) (find_code code as' n)
+abbrev pub first_with_code : {A : Type 0} → (A → ℕ) → List A → ℕ → Option A
+first_with_code code [] n = None
+first_with_code code (a ∷ as') n = cond (n == code a) (Some a) (first_with_code code as' n)
 
 -- the services
 abbrev pub all_services : List Service
@@ -45,11 +45,11 @@ all_kinds = msg.ActReq ∷ msg.ActRes ∷ msg.VfyReq ∷ msg.VfyRes ∷ msg.Enc 
 
 -- the service of an SVC code
 abbrev pub service_with : ℕ → Option Service
-service_with n = find_code service_code all_services n
+service_with n = first_with_code service_code all_services n
 
 -- the kind of message of a MSG code
 abbrev pub kind_with : ℕ → Option MessageKind
-kind_with n = find_code message_code all_kinds n
+kind_with n = first_with_code message_code all_kinds n
 
 -- a code alone: C2 where it is no service's, C3 where it is no message's
 abbrev pub service_result : ℕ → Result Service CodecFault
@@ -117,7 +117,7 @@ contents_result (Ok b) = Ok (contents_of b)
 contents_result (Err f) = Err (fault_code f)
 
 -- the code's reading
-abbrev pub reading_answered : Result Message ReadError → Reading
-reading_answered (Ok m) = message (parts_of m)
-reading_answered (Err (Refused r)) = refused (refusal_number r)
-reading_answered (Err (Fault f)) = fault (fault_code f)
+abbrev pub reading_of : Result Message ReadError → Reading
+reading_of (Ok m) = message (parts_of m)
+reading_of (Err (Refused r)) = refused (refusal_number r)
+reading_of (Err (Fault f)) = fault (fault_code f)

@@ -7,7 +7,7 @@ use Rattle.frame.specs.Numbers.{message_code, refusal_number}
 use Rattle.frame.specs.Frames.{Contents, FrameParts, kind_of, payload_of, wire_bytes}
 use Rattle.frame.specs.Reading.{Reading, message, reading}
 
--- TMN is SEP alone
+-- whether it is a TMN with a payload: TMN is SEP alone
 abbrev pub is_tmn_with_payload : Contents → Bool
 is_tmn_with_payload x = message_code (kind_of x) == message_code msg.Tmn && not (length (payload_of x) == 0)
 

@@ -1,5 +1,5 @@
 ghost use Rattle.std.specs.Prelude.{◌≡◌};
-ghost use Rattle.frame.specs.Reading.{reading, reading_answered as read_as, reading_of_sep, sep_reading, contents_reading, coded_result, contents_result};
+ghost use Rattle.frame.specs.Reading.{reading, reading_of as read_as, reading_of_sep, sep_reading, contents_reading, coded_result, contents_result};
 ghost use Rattle.frame.specs.Writing.{WritesAgain};
 
 use super::faults::{CodecFault, ReadError, Refusal};

@@ -1,19 +1,19 @@
 // Makes the calls of two logs again: the records that were sent and handed over, session by session.
-use super::log::Made;
+use super::log::StationCall;
 use super::stopped::Stopped;
 use entity::Entity;
-use replay::{Direction, Entry, Logged, SessionRecord, handed_count, replay};
+use replay::{Direction, Entry, LoggedCall, SessionRecord, handed_count, replay};
 use std::alloc::{AllocError, Global};
 use suite::Suite;
 
 // The logs of both devices.
 #[derive(Drop)]
 pub(super) struct Logs {
-    pub(super) handset: Vec<Made>,
-    pub(super) controller: Vec<Made>,
+    pub(super) handset: Vec<StationCall>,
+    pub(super) controller: Vec<StationCall>,
 }
 
-fn calls(alloc: Global, log: &[Made]) -> Result<Vec<Logged<'_>>, AllocError> {
+fn calls(alloc: Global, log: &[StationCall]) -> Result<Vec<LoggedCall<'_>>, AllocError> {
     log.iter().map(|made| made.logged()).collect(alloc)
 }
 

@@ -14,10 +14,10 @@ pub(super) fn activate<S: Suite, T: Suite>(
     controller: &mut Station<T>,
 ) -> Result<(), Stopped> {
     let act_req = handset.invoke(Service::Sch, KEYED)?;
-    let act_res = controller.hear(&act_req)?;
-    let vfy_req = handset.hear(&act_res)?;
-    let vfy_res = controller.hear(&vfy_req)?;
-    handset.hear(&vfy_res)?;
+    let act_res = controller.receive(&act_req)?;
+    let vfy_req = handset.receive(&act_res)?;
+    let vfy_res = controller.receive(&vfy_req)?;
+    handset.receive(&vfy_res)?;
     Ok(())
 }
 
@@ -32,16 +32,16 @@ pub(super) fn hand_over<S: Suite, T: Suite>(
         match fate {
             Fate::Lost => from.lost()?,
             Fate::Echoed => {
-                from.hear(&enc)?;
+                from.receive(&enc)?;
             }
             Fate::Arrives => {
-                to.hear(&enc)?;
+                to.receive(&enc)?;
             }
         }
     }
     to.retrieve()?;
     if record.late {
-        to.hear(&enc)?;
+        to.receive(&enc)?;
     }
     Ok(())
 }
@@ -51,6 +51,6 @@ pub(super) fn terminate<S: Suite, T: Suite>(
     to: &mut Station<T>,
 ) -> Result<(), Stopped> {
     let tmn = from.terminate()?;
-    to.hear(&tmn)?;
+    to.receive(&tmn)?;
     Ok(())
 }

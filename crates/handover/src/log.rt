@@ -4,7 +4,7 @@ ghost use Rattle.std.specs.Prelude.{◌≤◌, IfOk};
 use entity::{Ancillary, Call};
 use frame::MAX_FRAME;
 use protocol::{Outcome, Refusal};
-use replay::Logged;
+use replay::LoggedCall;
 
 // Fixed seeds, so that a run can be followed. A device draws a new one each time.
 pub(super) const OWN_SEED: [u8; 16] = [0x5A; 16];
@@ -36,24 +36,24 @@ impl Frame {
 
 // A call of a station's entity.
 #[derive(Clone, Copy)]
-pub(super) enum Made {
+pub(super) enum StationCall {
     // A frame came from the other device.
-    Heard(Frame),
+    Received(Frame),
     // The user asked, with bytes that are constants of the program.
     Asked(Call<'static>),
 }
 
-impl Made {
+impl StationCall {
     // The call as a replay takes it.
-    pub(super) fn logged(&self) -> Logged<'_> {
+    pub(super) fn logged(&self) -> LoggedCall<'_> {
         let call = match self {
-            Made::Heard(frame) => Call::Frame {
+            StationCall::Received(frame) => Call::Frame {
                 bytes: frame.bytes(),
                 beside: Ancillary { seed: &SPARE_SEED },
             },
-            Made::Asked(call) => *call,
+            StationCall::Asked(call) => *call,
         };
-        Logged {
+        LoggedCall {
             call,
             room: MAX_FRAME,
         }

@@ -1,6 +1,6 @@
 // A device with its entity. Each call is entered in a log, and prints a line: the call, what it returned and wrote, and the state that it
 // left the entity in.
-use super::log::{Frame, Made, OWN_SEED};
+use super::log::{Frame, OWN_SEED, StationCall};
 use super::stopped::Stopped;
 use activation::Agreed;
 use answer_text::{Answer, Worded, bytes_text};
@@ -24,7 +24,7 @@ pub(super) struct Station<'a, S: Suite> {
     rt: &'a HostRuntime,
     name: &'static str,
     entity: Entity<S>,
-    log: Vec<Made>,
+    log: Vec<StationCall>,
 }
 
 impl<'a, S: Suite> Station<'a, S> {
@@ -43,7 +43,7 @@ impl<'a, S: Suite> Station<'a, S> {
     }
 
     // Returns the entity, to be put away, and the log of its calls.
-    pub(super) fn into_parts(self) -> (Entity<S>, Vec<Made>) {
+    pub(super) fn into_parts(self) -> (Entity<S>, Vec<StationCall>) {
         let Station {
             rt: _,
             name: _,
@@ -71,7 +71,7 @@ impl<'a, S: Suite> Station<'a, S> {
     }
 
     // Enters a call in the log, makes it and prints it.
-    fn make(&mut self, call: &str, made: Made) -> Result<Frame, Stopped> {
+    fn make(&mut self, call: &str, made: StationCall) -> Result<Frame, Stopped> {
         self.log.push(made).map_err(AllocError::from)?;
         let (answer, wrote) = ask(&mut self.entity, &made.logged().call);
         self.says(call, answer, wrote.bytes())?;
@@ -80,25 +80,28 @@ impl<'a, S: Suite> Station<'a, S> {
 
     pub(super) fn invoke(&mut self, service: Service, pid: u8) -> Result<Frame, Stopped> {
         let seed = &OWN_SEED;
-        self.make("invoke", Made::Asked(Call::Invoke { service, pid, seed }))
+        self.make(
+            "invoke",
+            StationCall::Asked(Call::Invoke { service, pid, seed }),
+        )
     }
 
-    pub(super) fn hear(&mut self, frame: &Frame) -> Result<Frame, Stopped> {
-        self.make("frame", Made::Heard(*frame))
+    pub(super) fn receive(&mut self, frame: &Frame) -> Result<Frame, Stopped> {
+        self.make("frame", StationCall::Received(*frame))
     }
 
     pub(super) fn send(&mut self, record: &'static str) -> Result<Frame, Stopped> {
         let plain = record.as_bytes();
-        self.make("send", Made::Asked(Call::Send { plain }))
+        self.make("send", StationCall::Asked(Call::Send { plain }))
     }
 
     pub(super) fn terminate(&mut self) -> Result<Frame, Stopped> {
-        self.make("terminate", Made::Asked(Call::Terminate))
+        self.make("terminate", StationCall::Asked(Call::Terminate))
     }
 
     // Drops what was written, which is data and not a frame: it is printed.
     pub(super) fn retrieve(&mut self) -> Result<(), Stopped> {
-        let _data = self.make("data", Made::Asked(Call::RetrieveData))?;
+        let _data = self.make("data", StationCall::Asked(Call::RetrieveData))?;
         Ok(())
     }
 

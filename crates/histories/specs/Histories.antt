@@ -150,7 +150,7 @@ abbrev pub is_answered : Result Outcome Refusal → Bool
 is_answered (Err r) = false
 is_answered (Ok o) = true
 
--- a call that hands data out: retrieve data, not refused
+-- a call that hands data over to the user: retrieve data, not refused
 abbrev pub is_retrieved_by : Result Outcome Refusal → Call → Bool
 is_retrieved_by a (invoke service pid seed room) = false
 is_retrieved_by a (send plain room) = false
@@ -164,7 +164,7 @@ is_retrieved_by a release = false
 abbrev pub is_retrieval : Entry → Bool
 is_retrieval e = is_retrieved_by e.answer e.call
 
--- the data handed out
+-- the data handed over
 abbrev pub data_handed : History → List (List ℕ)
 data_handed [] = []
 data_handed (e ∷ h) = data_handed h ++ cond (is_retrieval e) (e.written ∷ []) []

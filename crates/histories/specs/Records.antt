@@ -46,12 +46,12 @@ abbrev pub session_records : History → List SessionRecord
 session_records [] = []
 session_records (e ∷ h) = session_records h ++ records_in (running_session h) e
 
--- a number for each way
+-- a number for each direction
 abbrev pub direction_number : Direction → ℕ
 direction_number was_sent = 0
 direction_number was_handed = 1
 
--- the data of the records of the session with link key n that went that way
+-- the data of the records of the session with link key n that went in that direction
 abbrev pub data_of : ℕ → Direction → List SessionRecord → List (List ℕ)
 data_of n direction [] = []
 data_of n direction (c ∷ cs) =

@@ -4,6 +4,6 @@ use Rattle.ledger.specs.declared.row.RowMark.{RowMark}
 use Rattle.ledger.specs.declared.row.RowMark.TheVariants.{Live, Destroyed}
 
 -- what is printed of a mark
-abbrev pub mark_text : RowMark → List ℕ
-mark_text Live = codes "live"
-mark_text Destroyed = codes "destroyed"
+abbrev pub mark_words : RowMark → List ℕ
+mark_words Live = codes "live"
+mark_words Destroyed = codes "destroyed"

@@ -1,6 +1,6 @@
 ghost use Rattle.std.specs.Prelude.{◌≡◌, Some};
 ghost use Rattle.ledger.specs.Rows.{mark_number, unused_row};
-ghost use Rattle.ledger.specs.Words.{mark_text};
+ghost use Rattle.ledger.specs.Words.{mark_words};
 
 use std::fmt;
 use suite::KeyKind;
@@ -24,7 +24,7 @@ impl RowMark {
 }
 
 impl fmt::Display for RowMark {
-    ghost output = { λ mark. Some (mark_text mark) };
+    ghost output = { λ mark. Some (mark_words mark) };
 
     fn fmt<W: fmt::Write>(&self, f: &mut fmt::Formatter<W>) -> fmt::Result {
         f.write_str(match self {

@@ -35,6 +35,7 @@ pub mod layers {
 /// Logs: their calls made again, and the records that were sent and handed. This allocates.
 pub mod log {
     pub use replay::{
-        Direction, Entry, Logged, SessionRecord, Transcripts, Written, handed_count, replay,
+        Direction, Entry, LoggedCall, SessionRecord, Transcripts, WrittenBytes, handed_count,
+        replay,
     };
 }

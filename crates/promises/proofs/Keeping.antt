@@ -141,13 +141,13 @@ link_live s {m} S fits =
     let k = key_at s S fits.linked in
     (k.0, ap (λ z. value_in m.means.live LinkKey z) fits.key ∙ k.1)
 
--- what is told of link sessions holds after every list of calls
-told : (s : Scheme) {m : Model} {h : History} → Holds s m h → Orderly h → Quiet h → ReportsSessions m h
-told s {m} {h} H o quiet = record {
+-- what is reported of link sessions holds after every list of calls
+reported : (s : Scheme) {m : Model} {h : History} → Holds s m h → Orderly h → Quiet h → ReportsSessions m h
+reported s {m} {h} H o quiet = record {
   running = λ n since r. read_off n r o;
   none = λ e. none_read h (λ x. e (confirmed_at m.state (H.all x.0 x.1.0 x.1.1).linked));
-  sent_told = λ n since r. runs_told n was_sent r o H.books.anew;
-  handed_told = λ n since r. runs_told n was_handed r o H.books.anew;
+  sent_reported = λ n since r. runs_told n was_sent r o H.books.anew;
+  handed_reported = λ n since r. runs_told n was_handed r o H.books.anew;
   sent_over = λ n since r. over_told n was_sent r o H.books.anew;
   handed_over = λ n since r. over_told n was_handed r o H.books.anew;
   no_others = λ n direction some. no_others n direction h quiet some;
@@ -172,7 +172,7 @@ kept s law {m} H g o quiet = record {
     last = number_below s H.form;
     handed = g;
   };
-  told = told s H o quiet;
+  reported = reported s H o quiet;
   suite = asks_well s law H.form;
   anew = idle_fresh s (asks_well s law H.form).formed H.form;
 }
@@ -207,15 +207,15 @@ session_is : (s : Scheme) (m : Model) (n : ℕ) {calls : List Call} {value : Lis
 session_is s m n (ends c x d) = over.ends x.runs d
 session_is s m n (stays c x) = over.stays (session_is s m n x)
 
--- the records told of a link session are those of its calls
+-- the records reported of a link session are those of its calls
 module _ (s : Scheme) (law : IsLawful s) (m : Model) (f : IsFresh m) (calls : List Call) (given : AllByRecursion IsGivenBytes calls) (n : ℕ) (value : List ℕ) (since : History) where
-  pub sent_told : LinkSession s m calls n value since → data_of n was_sent (session_records (history s m calls)) ≡ data_sent since
-  sent_told (inl x) = (every_run s law m f calls given).told.sent_told n since x.runs
-  sent_told (inr x) = (every_run s law m f calls given).told.sent_over n since (session_is s m n x)
+  pub sent_reported : LinkSession s m calls n value since → data_of n was_sent (session_records (history s m calls)) ≡ data_sent since
+  sent_reported (inl x) = (every_run s law m f calls given).reported.sent_reported n since x.runs
+  sent_reported (inr x) = (every_run s law m f calls given).reported.sent_over n since (session_is s m n x)
 
-  pub handed_told : LinkSession s m calls n value since → data_of n was_handed (session_records (history s m calls)) ≡ data_handed since
-  handed_told (inl x) = (every_run s law m f calls given).told.handed_told n since x.runs
-  handed_told (inr x) = (every_run s law m f calls given).told.handed_over n since (session_is s m n x)
+  pub handed_reported : LinkSession s m calls n value since → data_of n was_handed (session_records (history s m calls)) ≡ data_handed since
+  handed_reported (inl x) = (every_run s law m f calls given).reported.handed_reported n since x.runs
+  handed_reported (inr x) = (every_run s law m f calls given).reported.handed_over n since (session_is s m n x)
 
 pub every_session : EverySession
 every_session s law m f calls given n since x = valued_any s law m f n calls given since x

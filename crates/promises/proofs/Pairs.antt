@@ -156,7 +156,7 @@ ordered s t law law' alike m m' fresh fresh' calls calls' data_given given' valu
     let only' : GetsOnlyCopies (encs_sent x.since ++ encs_sent y.since) x.since = subst (λ c. GetsOnlyCopies c x.since) (sym all) (x.only (encs_sent mine ++ encs_sent theirs) only) in
     let front = in_order s t law law' alike value z z' x.end.ok y.end.ok x.end.formed y.end.formed x.end.value16 x.end.ledger y.end.ledger only' in
     let whole = no_gap s t law law' alike value z z' x.end.ok y.end.ok x.end.formed y.end.formed x.end.value16 x.end.ledger y.end.ledger only' in
-    same_lists s t value (keyring_at one) (keyring_at other) n n' x.sealeds y.sealeds x.handeds y.sents (record { part = front; begins = whole })
+    same_lists s t value (keyring_at one) (keyring_at other) n n' x.sealeds y.sealeds x.handeds y.sents (record { subsequence = front; prefix = whole })
 
 pub kinds_alike : KindsOpenAlike
 kinds_alike s t kind = record { firsts = kind.firsts; opens = kind.opens }

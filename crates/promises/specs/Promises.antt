@@ -65,8 +65,8 @@ pub record ReportsSessions (m : Model) (h : History) : Type 0 where
   pub running : (n : ℕ) (since : History) → Runs n h since → running_session h ≡ n
   pub none : m.state ≢ ConfirmedSch → running_session h ≡ 0
   -- the records told of the session that runs are those of its calls, in their order
-  pub sent_told : (n : ℕ) (since : History) → Runs n h since → data_of n was_sent (session_records h) ≡ data_sent since
-  pub handed_told : (n : ℕ) (since : History) → Runs n h since →
+  pub sent_reported : (n : ℕ) (since : History) → Runs n h since → data_of n was_sent (session_records h) ≡ data_sent since
+  pub handed_reported : (n : ℕ) (since : History) → Runs n h since →
       data_of n was_handed (session_records h) ≡ data_handed since
   -- so are those of a session that is over
   pub sent_over : (n : ℕ) (since : History) → HasEnded n h since →
@@ -124,7 +124,7 @@ pub record AsksWell (s : Scheme) (m : Model) : Type 0 where
 pub record KeepsPromises (s : Scheme) (m : Model) (h : History) : Type 0 where
   pub keys : KeepsKeyAccount m h
   pub sessions : KeepsSessions s m h
-  pub told : ReportsSessions m h
+  pub reported : ReportsSessions m h
   pub suite : AsksWell s m
   -- in Idle the entity is as at the beginning, and a run begins anew
   pub anew : m.state ≡ Idle → IsFresh m
@@ -163,15 +163,15 @@ AlikeBothWays = (s t : Scheme) → OpensAlike s t → OpensAlike t s
 abbrev pub KindsBothWays : Type 0
 KindsBothWays = (s t : Scheme) → IsOneKind s t → IsOneKind t s
 
--- what was handed out in one session, beside what was sent in the other, and the numbers of the records sent in the two
-pub record Follows (out told : List (List ℕ)) (mine theirs : List ℕ) : Type 0 where
+-- what was handed over in one session, beside what was sent in the other, and the numbers of the records sent in the two
+pub record Follows (handed sent : List (List ℕ)) (mine theirs : List ℕ) : Type 0 where
   -- it is a subsequence of what was sent
-  pub part : IsSubsequence out told
+  pub subsequence : IsSubsequence handed sent
   -- and its beginning if no number was sent in both
-  pub begins : IsDisjoint mine theirs → IsPrefix out told
+  pub prefix : IsDisjoint mine theirs → IsPrefix handed sent
 
 -- For two fresh entities over suites that open alike, and a link session of the calls to each, with one value of the two link keys: if
--- mine gets no ENC but copies of the records sent in the two, what is handed out in mine follows what is sent in theirs.
+-- each ENC that mine gets is a copy of one sent in the two, what is handed over in mine follows what is sent in theirs.
 abbrev pub RecordsInOrder : Type 0
 RecordsInOrder = (s t : Scheme) → IsLawful s → IsLawful t → OpensAlike s t →
     (m m' : Model) → IsFresh m → IsFresh m' →

@@ -24,14 +24,14 @@ use Rattle.protocol.specs.declared.faults.MachineFault.{MachineFault}
 use Rattle.protocol.specs.Numbers.{cause_code}
 use Rattle.protocol.specs.Models.{Model, Ancillary, without_key, idle_model, session_keys}
 use Rattle.protocol.specs.Steps.{Step, frame_bytes, fault_effect, end_effect, is_same_service, session_effect, on_act_req, on_act_res, on_vfy_req, on_vfy_res, on_enc, message_effect, reading_effect}
-use Rattle.protocol.specs.Calls.{Call, refusal_effect, error_effect, effect_of_answer, error_service, error_payload, invoke, send, retrieve_data, retrieve_secret, terminate, frame, release, CallEffect, invoke_effect, send_effect, data_effect, secret_effect, terminate_effect, release_effect, admitted_effect, first_byte, admission, frame_effect, call_effect}
-use Rattle.protocol.specs.Ends.{Ends, EveryCallEnds}
+use Rattle.protocol.specs.Calls.{Call, refusal_effect, error_effect, effect_of_answer, error_service, error_payload, invoke, send, retrieve_data, retrieve_secret, terminate, frame, release, CallEffect, invoke_effect, send_effect, retrieve_data_effect, retrieve_secret_effect, terminate_effect, release_effect, admitted_effect, first_byte, admission, frame_effect, call_effect}
+use Rattle.protocol.specs.Ends.{CallEnds, EveryCallEnds}
 
 -- by the cases of a test
 both : {A : Type 0} (b : Bool) (P : A → Type 0) {x y : A} → (b ≡ true → P x) → (b ≡ false → P y) → P (cond b x y)
 both b P {x} {y} f g = cond_both b x y P f g
 
-refused-ends : (m : Model) (r : Refusal) → Ends m (refusal_effect m r)
+refused-ends : (m : Model) (r : Refusal) → CallEnds m (refusal_effect m r)
 refused-ends m r = record { refused = λ q e. (refl, refl); length = λ o e. absurd (cc); faulty = λ o f e q. absurd (cc) }
 
 -- Keys that are destroyed are live no more.
@@ -56,7 +56,7 @@ keys_gone m f =
       key_gone first m.secret (apart_left m.means m.link f.apart) (none_left m.means m.link 0 zero),
     )
 
-error_effect-ends : (m : Model) (sep : ℕ) (f : MachineFault) → Ends m (error_effect m sep f)
+error_effect-ends : (m : Model) (sep : ℕ) (f : MachineFault) → CallEnds m (error_effect m sep f)
 error_effect-ends m sep f = record {
   refused = λ r e. absurd (cc);
   length = λ o e. grind (arith, common_steps);
@@ -81,7 +81,7 @@ error_effect-ends m sep f = record {
 
 -- a call that meets no fault
 faultless : (m : Model) (t : CallEffect) → ((r : Refusal) → t.answer ≡ Err r → (t.model ≡ m) × (t.reply ≡ []))
-    → ((o : Outcome) → t.answer ≡ Ok o → (o.length ≡ length t.reply) × (o.fault ≡ None)) → Ends m t
+    → ((o : Outcome) → t.answer ≡ Ok o → (o.length ≡ length t.reply) × (o.fault ≡ None)) → CallEnds m t
 faultless m t refuses answers = record {
   refused = refuses;
   length = λ o e. (answers o e).0;
@@ -91,22 +91,22 @@ faultless m t refuses answers = record {
     no_fault : (o : Outcome) (f : Fault) → o.fault ≡ None → o.fault ≡ Some f → ⊥
     no_fault o f e q = cc
 
-invoke-ends : (s : Scheme) (m : Model) (service : Service) (pid : ℕ) (seed : List ℕ) (room : ℕ) → Ends m (invoke_effect s m service pid seed room)
+invoke-ends : (s : Scheme) (m : Model) (service : Service) (pid : ℕ) (seed : List ℕ) (room : ℕ) → CallEnds m (invoke_effect s m service pid seed room)
 invoke-ends s m service pid seed room = faultless m (invoke_effect s m service pid seed room) (λ r e. grind (arith, common_steps)) (λ o e. grind (arith, common_steps))
 
-send-ends : (s : Scheme) (m : Model) (plain : List ℕ) (room : ℕ) → Ends m (send_effect s m plain room)
+send-ends : (s : Scheme) (m : Model) (plain : List ℕ) (room : ℕ) → CallEnds m (send_effect s m plain room)
 send-ends s m plain room = faultless m (send_effect s m plain room) (λ r e. grind (arith, common_steps)) (λ o e. grind (arith, common_steps))
 
-data-ends : (m : Model) (room : ℕ) → Ends m (data_effect m room)
-data-ends m room = faultless m (data_effect m room) (λ r e. grind (arith, common_steps)) (λ o e. grind (arith, common_steps))
+data-ends : (m : Model) (room : ℕ) → CallEnds m (retrieve_data_effect m room)
+data-ends m room = faultless m (retrieve_data_effect m room) (λ r e. grind (arith, common_steps)) (λ o e. grind (arith, common_steps))
 
-secret-ends : (m : Model) (room : ℕ) → Ends m (secret_effect m room)
-secret-ends m room = faultless m (secret_effect m room) (λ r e. grind (arith, common_steps)) (λ o e. grind (arith, common_steps))
+secret-ends : (m : Model) (room : ℕ) → CallEnds m (retrieve_secret_effect m room)
+secret-ends m room = faultless m (retrieve_secret_effect m room) (λ r e. grind (arith, common_steps)) (λ o e. grind (arith, common_steps))
 
-terminate-ends : (m : Model) (room : ℕ) → Ends m (terminate_effect m room)
+terminate-ends : (m : Model) (room : ℕ) → CallEnds m (terminate_effect m room)
 terminate-ends m room = faultless m (terminate_effect m room) (λ r e. grind (arith, common_steps)) (λ o e. grind (arith, common_steps))
 
-release-ends : (m : Model) → Ends m (release_effect m)
+release-ends : (m : Model) → CallEnds m (release_effect m)
 release-ends m = faultless m (release_effect m) (λ r e. grind (arith, common_steps)) (λ o e. grind (arith, common_steps))
 
 -- what a message is answered without a fault tells its length
@@ -114,17 +114,17 @@ release-ends m = faultless m (release_effect m) (λ r e. grind (arith, common_st
 abbrev Tells : Step → Type 0
 Tells step = (o : Outcome) → step.answer ≡ Ok o → (o.length ≡ length step.reply) × (o.fault ≡ None)
 
-act_req-tells : (s : Scheme) (m : Model) (service : Service) (pid : ℕ) (offer seed : List ℕ) → Tells (on_act_req s m service pid offer seed)
-act_req-tells s m service pid offer seed = λ o e. grind (arith, common_steps)
+act_req_call-tells : (s : Scheme) (m : Model) (service : Service) (pid : ℕ) (offer seed : List ℕ) → Tells (on_act_req s m service pid offer seed)
+act_req_call-tells s m service pid offer seed = λ o e. grind (arith, common_steps)
 
-act_res-tells : (s : Scheme) (m : Model) (offer : List ℕ) → Tells (on_act_res s m offer)
-act_res-tells s m offer = λ o e. grind (arith, common_steps)
+act_res_call-tells : (s : Scheme) (m : Model) (offer : List ℕ) → Tells (on_act_res s m offer)
+act_res_call-tells s m offer = λ o e. grind (arith, common_steps)
 
-vfy_req-tells : (s : Scheme) (m : Model) (payload : List ℕ) → Tells (on_vfy_req s m payload)
-vfy_req-tells s m payload = λ o e. grind (arith, common_steps)
+vfy_req_call-tells : (s : Scheme) (m : Model) (payload : List ℕ) → Tells (on_vfy_req s m payload)
+vfy_req_call-tells s m payload = λ o e. grind (arith, common_steps)
 
-vfy_res-tells : (s : Scheme) (m : Model) (payload : List ℕ) → Tells (on_vfy_res s m payload)
-vfy_res-tells s m payload = λ o e. grind (arith, common_steps)
+vfy_res_call-tells : (s : Scheme) (m : Model) (payload : List ℕ) → Tells (on_vfy_res s m payload)
+vfy_res_call-tells s m payload = λ o e. grind (arith, common_steps)
 
 enc-tells : (s : Scheme) (m : Model) (payload : List ℕ) → Tells (on_enc s m payload)
 enc-tells s m payload = λ o e. grind (arith, common_steps)
@@ -144,10 +144,10 @@ fault_effect-tells m cause o e = absurd (cc)
 
 state-tells : (s : Scheme) (m : Model) (a : Ancillary) (service : Service) (state : State) (contents : Contents) → Tells (message_effect s m a service state contents)
 state-tells s m a service state (error p) = ended-tells m conf.Error
-state-tells s m a service st.Idle (act_req pid offer) = act_req-tells s m service pid offer a.seed
-state-tells s m a service st.Select (act_res offer) = session-tells m service (on_act_res s m offer) (act_res-tells s m offer)
-state-tells s m a service st.EstablishedSender (vfy_res check) = session-tells m service (on_vfy_res s m check) (vfy_res-tells s m check)
-state-tells s m a service st.EstablishedRecipient (vfy_req check) = session-tells m service (on_vfy_req s m check) (vfy_req-tells s m check)
+state-tells s m a service st.Idle (act_req pid offer) = act_req_call-tells s m service pid offer a.seed
+state-tells s m a service st.Select (act_res offer) = session-tells m service (on_act_res s m offer) (act_res_call-tells s m offer)
+state-tells s m a service st.EstablishedSender (vfy_res check) = session-tells m service (on_vfy_res s m check) (vfy_res_call-tells s m check)
+state-tells s m a service st.EstablishedRecipient (vfy_req check) = session-tells m service (on_vfy_req s m check) (vfy_req_call-tells s m check)
 state-tells s m a service st.ConfirmedSse (tmn p) = session-tells m service (end_effect m conf.Terminated) (ended-tells m conf.Terminated)
 state-tells s m a service st.ConfirmedSch (tmn p) = session-tells m service (end_effect m conf.Terminated) (ended-tells m conf.Terminated)
 state-tells s m a service st.ConfirmedSch (enc payload) = session-tells m service (on_enc s m payload) (enc-tells s m payload)
@@ -159,26 +159,26 @@ heard-tells s m a (Err f) = fault_effect-tells m (Codec f)
 
 -- a step, with its fault answered by an ERROR
 effect_of_answer-ends : (m : Model) (sep : ℕ) (step : Step) (answer : Result Outcome MachineFault)
-    → ((o : Outcome) → answer ≡ Ok o → (o.length ≡ length step.reply) × (o.fault ≡ None)) → Ends m (effect_of_answer m sep step answer)
+    → ((o : Outcome) → answer ≡ Ok o → (o.length ≡ length step.reply) × (o.fault ≡ None)) → CallEnds m (effect_of_answer m sep step answer)
 effect_of_answer-ends m sep step (Ok o) h = faultless m (effect_of_answer m sep step (Ok o)) (λ r e. absurd (cc)) (λ p e. same p o (h o refl) e)
   where
     same : (p q : Outcome) → (q.length ≡ length step.reply) × (q.fault ≡ None) → ◌≡◌ {A = Result Outcome Refusal} (Ok q) (Ok p) → (p.length ≡ length step.reply) × (p.fault ≡ None)
     same p q k e = (grind (arith, common_steps), grind (arith, common_steps))
 effect_of_answer-ends m sep step (Err f) h = error_effect-ends m sep f
 
-taken-ends : (s : Scheme) (m : Model) (a : Ancillary) (sep : ℕ) (h : Result (Result FrameParts CodecFault) Refusal) → Ends m (admitted_effect s m a sep h)
+taken-ends : (s : Scheme) (m : Model) (a : Ancillary) (sep : ℕ) (h : Result (Result FrameParts CodecFault) Refusal) → CallEnds m (admitted_effect s m a sep h)
 taken-ends s m a sep (Ok h) = let step = reading_effect s m a h in effect_of_answer-ends m sep step step.answer (heard-tells s m a h)
 taken-ends s m a sep (Err r) = refused-ends m r
 
-frame-ends : (s : Scheme) (m : Model) (bytes : List ℕ) (a : Ancillary) (room : ℕ) → Ends m (frame_effect s m bytes a room)
+frame-ends : (s : Scheme) (m : Model) (bytes : List ℕ) (a : Ancillary) (room : ℕ) → CallEnds m (frame_effect s m bytes a room)
 frame-ends s m bytes a room = chosen (is_short_buffer room) (is_wrong_seed a.seed)
   where
-    chosen : (b d : Bool) → Ends m (cond b (refusal_effect m no.ReplyBuffer) (cond d (refusal_effect m no.SeedLength) (admitted_effect s m a (first_byte bytes) (admission m (reading bytes)))))
+    chosen : (b d : Bool) → CallEnds m (cond b (refusal_effect m no.ReplyBuffer) (cond d (refusal_effect m no.SeedLength) (admitted_effect s m a (first_byte bytes) (admission m (reading bytes)))))
     chosen true d = refused-ends m no.ReplyBuffer
     chosen false true = refused-ends m no.SeedLength
     chosen false false = taken-ends s m a (first_byte bytes) (admission m (reading bytes))
 
-ends : (s : Scheme) (m : Model) (c : Call) → Ends m (call_effect s m c)
+ends : (s : Scheme) (m : Model) (c : Call) → CallEnds m (call_effect s m c)
 ends s m (invoke service pid seed room) = invoke-ends s m service pid seed room
 ends s m (send plain room) = send-ends s m plain room
 ends s m (retrieve_data room) = data-ends m room

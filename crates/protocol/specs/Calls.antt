@@ -33,7 +33,7 @@ pub data Call : Type 0 where
   frame : (bytes : List ℕ) (beside : Ancillary) (room : ℕ) → Call
   release : Call
 
--- a call
+-- the effect of a call
 abbrev pub CallEffect : Type 0
 CallEffect = Effect Refusal
 
@@ -71,16 +71,16 @@ send_effect s m plain room =
     (keyless_effect (record m { number = m.number + 1 }) conf.DataSent (frame_bytes Sch (enc (sealed_record s m (m.number + 1) plain)))))))
 
 -- Retrieve Data (annex A.2): the data held, whose place is empty after
-abbrev pub data_effect : Model → ℕ → CallEffect
-data_effect m room =
+abbrev pub retrieve_data_effect : Model → ℕ → CallEffect
+retrieve_data_effect m room =
     cond (not (is_in_state m st.ConfirmedSch)) (refusal_effect m no.WrongState)
     (cond (is_empty m.held) (refusal_effect m no.NothingHeld)
     (cond (nat_lt room (length m.held)) (refusal_effect m no.SmallBuffer)
     (keyless_effect (record m { held = [] }) conf.Nothing m.held)))
 
 -- Retrieve Secret (annex A.2): the sixteen bytes of the shared secret
-abbrev pub secret_effect : Model → ℕ → CallEffect
-secret_effect m room =
+abbrev pub retrieve_secret_effect : Model → ℕ → CallEffect
+retrieve_secret_effect m room =
     cond (not (is_in_state m st.ConfirmedSse)) (refusal_effect m no.WrongState)
     (cond (nat_lt room 16) (refusal_effect m no.SmallBuffer)
     (keyless_effect m conf.Nothing (secret_value m)))
@@ -99,18 +99,18 @@ release_effect m = idle_effect m (cond (is_in_state m st.Idle) conf.Nothing conf
 -- Frames.
 
 -- a record, in Confirmed_SCH
-abbrev pub is_record_taken : State → Contents → Bool
-is_record_taken state (act_req pid p) = false
-is_record_taken state (act_res p) = false
-is_record_taken state (vfy_req p) = false
-is_record_taken state (vfy_res p) = false
-is_record_taken state (enc p) = state_mark state == state_mark st.ConfirmedSch
-is_record_taken state (tmn p) = false
-is_record_taken state (error p) = false
+abbrev pub is_enc_in_link : State → Contents → Bool
+is_enc_in_link state (act_req pid p) = false
+is_enc_in_link state (act_res p) = false
+is_enc_in_link state (vfy_req p) = false
+is_enc_in_link state (vfy_res p) = false
+is_enc_in_link state (enc p) = state_mark state == state_mark st.ConfirmedSch
+is_enc_in_link state (tmn p) = false
+is_enc_in_link state (error p) = false
 
 -- a record of the session's service, in Confirmed_SCH while data is held
 abbrev pub is_blocked : Model → FrameParts → Bool
-is_blocked m p = is_record_taken m.state p.contents && is_same_service p.service m.service && not (is_empty m.held)
+is_blocked m p = is_enc_in_link m.state p.contents && is_same_service p.service m.service && not (is_empty m.held)
 
 -- what is read of a frame, a message or a codec fault; or why it is refused
 abbrev pub admission : Model → Reading → Result (Result FrameParts CodecFault) Refusal
@@ -166,8 +166,8 @@ frame_effect s m bytes a room =
 abbrev pub call_effect : Scheme → Model → Call → CallEffect
 call_effect s m (invoke service pid seed room) = invoke_effect s m service pid seed room
 call_effect s m (send plain room) = send_effect s m plain room
-call_effect s m (retrieve_data room) = data_effect m room
-call_effect s m (retrieve_secret room) = secret_effect m room
+call_effect s m (retrieve_data room) = retrieve_data_effect m room
+call_effect s m (retrieve_secret room) = retrieve_secret_effect m room
 call_effect s m (terminate room) = terminate_effect m room
 call_effect s m (frame bytes a room) = frame_effect s m bytes a room
 call_effect s m release = release_effect m

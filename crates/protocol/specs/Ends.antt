@@ -38,11 +38,11 @@ pub record EndsByFault (m : Model) (t : CallEffect) (o : Outcome) (f : Fault) : 
   pub reply : TellsFault f t.reply
 
 -- how one call ends
-pub record Ends (m : Model) (t : CallEffect) : Type 0 where
+pub record CallEnds (m : Model) (t : CallEffect) : Type 0 where
   pub refused : (r : Refusal) → t.answer ≡ Err r → (t.model ≡ m) × (t.reply ≡ [])
   pub length : (o : Outcome) → t.answer ≡ Ok o → o.length ≡ length t.reply
   pub faulty : (o : Outcome) (f : Fault) → t.answer ≡ Ok o → o.fault ≡ Some f → EndsByFault m t o f
 
 -- whatever an entity is, and whatever it is called with
 abbrev pub EveryCallEnds : Scheme → Type 0
-EveryCallEnds s = (m : Model) (c : Call) → Ends m (call_effect s m c)
+EveryCallEnds s = (m : Model) (c : Call) → CallEnds m (call_effect s m c)

@@ -125,8 +125,8 @@ as_recipient m service value =
     record (with_secret m value) { state = st.EstablishedRecipient; service = service; role = Recipient }
 
 -- the Recipient's reply, once it has agreed
-abbrev pub offer_effect : Scheme → Model → List ℕ → Step
-offer_effect s m seed =
+abbrev pub act_res_effect : Scheme → Model → List ℕ → Step
+act_res_effect s m seed =
     ongoing_effect m conf.Nothing m.secret (frame_bytes m.service (act_res (s.offer_of (keyring_of m.means) seed)))
 
 -- ACT_REQ in Idle (9.1)
@@ -134,19 +134,19 @@ abbrev pub on_act_req : Scheme → Model → Service → ℕ → List ℕ → Li
 on_act_req s m service pid offer seed =
     cond (not (pid == s.pid)) (fault_effect m (Suite OtherPid))
     (effect_or_fault m (agreement s m.means seed offer Recipient) (λ value.
-    offer_effect s (as_recipient m service value) seed))
+    act_res_effect s (as_recipient m service value) seed))
 
 -- Select. ACT_RES: the Sender agrees with the seed that it kept, and asks for verification by its check value.
 
 -- the Sender's VFY_REQ, once it has agreed
-abbrev pub check_effect : Scheme → Model → Step
-check_effect s m = ongoing_effect (record m { state = st.EstablishedSender }) conf.Nothing m.secret (frame_bytes m.service (vfy_req (check_value s m Sender)))
+abbrev pub vfy_req_effect : Scheme → Model → Step
+vfy_req_effect s m = ongoing_effect (record m { state = st.EstablishedSender }) conf.Nothing m.secret (frame_bytes m.service (vfy_req (check_value s m Sender)))
 
 -- ACT_RES in Select (9.1)
 abbrev pub on_act_res : Scheme → Model → List ℕ → Step
 on_act_res s m offer =
     effect_or_fault m (agreement s m.means m.seed offer Sender) (λ value.
-    check_effect s (with_secret m value))
+    vfy_req_effect s (with_secret m value))
 
 -- Established. VFY: the peer's check value is compared, S4; for SCH the link key is derived, S3; the Recipient replies with its own check value.
 
@@ -193,7 +193,7 @@ on_vfy_res s m payload =
 abbrev pub is_empty : List ℕ → Bool
 is_empty xs = length xs == 0
 
--- how many bytes the data of a record has
+-- whether the data of a record can have that many bytes
 abbrev pub is_record_length : ℕ → Bool
 is_record_length n = not (n == 0) && not (nat_lt MAX_DATA n)
 

@@ -6,9 +6,9 @@ use Rattle.protocol.specs.declared.outcomes.Outcome.{Outcome}
 use Rattle.protocol.specs.declared.refusals.Refusal.{Refusal}
 use Rattle.protocol.specs.Models.{Model}
 use Rattle.protocol.specs.Calls.{CallEffect}
-use Rattle.protocol.specs.Ends.{Ends}
-use Rattle.replay.specs.Entries.{bytes_written}
+use Rattle.protocol.specs.Ends.{CallEnds}
+use Rattle.replay.specs.Entries.{bytes_of_answer}
 
-pub reply_told : (m : Model) (t : CallEffect) (answer : Result Outcome Refusal) (buffer old : List ℕ) → Ends m t → answer ≡ t.answer → buffer ≡ with_front t.reply old → bytes_written answer buffer ≡ t.reply
+pub reply_told : (m : Model) (t : CallEffect) (answer : Result Outcome Refusal) (buffer old : List ℕ) → CallEnds m t → answer ≡ t.answer → buffer ≡ with_front t.reply old → bytes_of_answer answer buffer ≡ t.reply
 reply_told m t (Ok o) buffer old ends e f = ap (take o.length) f ∙ take-over t.reply old o.length (ends.length o (sym e))
 reply_told m t (Err r) buffer old ends e f = sym (ends.refused r (sym e)).1

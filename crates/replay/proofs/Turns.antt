@@ -11,20 +11,20 @@ use Rattle.suite.specs.Schemes.{Scheme}
 use Rattle.histories.specs.Histories.{entry_of, entity_after, history}
 use Rattle.histories.specs.Histories as h
 use Rattle.histories.specs.Records.{SessionRecord, session_records, running_session, next_session, records_in}
-use Rattle.replay.specs.declared.logged.Logged.{Logged}
+use Rattle.replay.specs.declared.logged.LoggedCall.{LoggedCall}
 use Rattle.replay.specs.declared.entry.Entry.{Entry}
 use Rattle.replay.specs.LogViews.{logged_call, logged_calls}
 use Rattle.replay.specs.Entries.{history_entry, history_entries, transcript_history, HasRecordsInPlace, transcript_records, records_of}
 
 -- the calls of a log so far, and one more
-calls_on : (log : List Logged) (i : ℕ) (x : Logged) → i < length log → logged_calls (take (i + 1) log) ≡ logged_calls (take i log) ++ (logged_call (get_or log i x) ∷ [])
+calls_on : (log : List LoggedCall) (i : ℕ) (x : LoggedCall) → i < length log → logged_calls (take (i + 1) log) ≡ logged_calls (take i log) ++ (logged_call (get_or log i x) ∷ [])
 calls_on log i x h = ap logged_calls (take_more log i x h) ∙ map-append logged_call (take i log) (get_or log i x ∷ [])
 
-pub calls_more : (log : List Logged) (i : ℕ) (x : Logged) → i < length log → reverse (logged_calls (take (i + 1) log)) ≡ logged_call (get_or log i x) ∷ reverse (logged_calls (take i log))
+pub calls_more : (log : List LoggedCall) (i : ℕ) (x : LoggedCall) → i < length log → reverse (logged_calls (take (i + 1) log)) ≡ logged_call (get_or log i x) ∷ reverse (logged_calls (take i log))
 calls_more log i x h = ap reverse (calls_on log i x h) ∙ reverse-append (logged_calls (take i log)) (logged_call (get_or log i x) ∷ [])
 
 -- there are as many calls as entries so far
-as_many : (log : List Logged) (entries : List Entry) (i : ℕ) → i < length log → length entries ≡ length log → length (logged_calls (take i log)) ≡ length (take i entries)
+as_many : (log : List LoggedCall) (entries : List Entry) (i : ℕ) → i < length log → length entries ≡ length log → length (logged_calls (take i log)) ≡ length (take i entries)
 as_many log entries i h long = length-map (take i log) logged_call ∙ simp length-take (omega arith)
 
 each_more : (cs : List Call) (es : List Entry) (c : Call) (e : Entry) → length cs ≡ length es → history_entries (cs ++ (c ∷ [])) (es ++ (e ∷ [])) ≡ history_entries cs es ++ (history_entry c e ∷ [])
@@ -33,7 +33,7 @@ each_more [] (x ∷ es) c e h = absurd (omega arith)
 each_more (k ∷ cs) [] c e h = absurd (omega arith)
 each_more (k ∷ cs) (x ∷ es) c e h = ap (λ z. history_entry k x ∷ z) (each_more cs es c e (omega arith))
 
-pub told_more : (log : List Logged) (entries : List Entry) (i : ℕ) (x : Logged) (e : Entry) → i < length log → length entries ≡ length log
+pub told_more : (log : List LoggedCall) (entries : List Entry) (i : ℕ) (x : LoggedCall) (e : Entry) → i < length log → length entries ≡ length log
     → transcript_history (logged_calls (take (i + 1) log)) (take (i + 1) (set entries i e)) ≡ history_entry (logged_call (get_or log i x)) e ∷ transcript_history (logged_calls (take i log)) (take i entries)
 told_more log entries i x e h long =
     let low : i < length entries = omega arith in
@@ -52,7 +52,7 @@ in_place_on before (k ∷ cs) (x ∷ es) c e so_far one =
     ap (λ z. z ++ before) (reverse-append (history_entry k x ∷ []) (history_entries cs es)) ∙ append_assoc (reverse (history_entries cs es)) (history_entry k x ∷ []) before in
     (so_far.0, in_place_on (history_entry k x ∷ before) cs es c e so_far.1 (one ∙ ap (λ z. records_in (running_session z) (history_entry c e)) same))
 
-pub in_place_more : (log : List Logged) (entries : List Entry) (i : ℕ) (x : Logged) (e : Entry) (session : ℕ) → i < length log → length entries ≡ length log
+pub in_place_more : (log : List LoggedCall) (entries : List Entry) (i : ℕ) (x : LoggedCall) (e : Entry) (session : ℕ) → i < length log → length entries ≡ length log
     → HasRecordsInPlace [] (logged_calls (take i log)) (take i entries) → session ≡ running_session (transcript_history (logged_calls (take i log)) (take i entries)) → records_of e.record ≡ records_in session (history_entry (logged_call (get_or log i x)) e)
     → HasRecordsInPlace [] (logged_calls (take (i + 1) log)) (take (i + 1) (set entries i e))
 in_place_more log entries i x e session h long so_far runs one =

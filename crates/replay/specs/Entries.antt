@@ -7,20 +7,20 @@ use Rattle.protocol.specs.declared.refusals.Refusal.{Refusal}
 use Rattle.histories.specs.Histories as h
 use Rattle.histories.specs.Records.{was_sent, was_handed, direction_number, running_session, records_in}
 use Rattle.histories.specs.Records as r
-use Rattle.replay.specs.declared.entry.Written.{Written}
+use Rattle.replay.specs.declared.entry.WrittenBytes.{WrittenBytes}
 use Rattle.replay.specs.declared.entry.Direction.{Direction}
 use Rattle.replay.specs.declared.entry.Direction.TheVariants.{Sent, Handed}
 use Rattle.replay.specs.declared.entry.SessionRecord.{SessionRecord}
 use Rattle.replay.specs.declared.entry.Entry.{Entry}
 
 -- the bytes that were written
-abbrev pub written_bytes : Written → List ℕ
+abbrev pub written_bytes : WrittenBytes → List ℕ
 written_bytes w = take w.length w.bytes
 
 -- what lies in the front of a buffer, by the length that a call answered
-abbrev pub bytes_written : Result Outcome Refusal → List ℕ → List ℕ
-bytes_written (Ok o) buffer = take o.length buffer
-bytes_written (Err r) buffer = []
+abbrev pub bytes_of_answer : Result Outcome Refusal → List ℕ → List ℕ
+bytes_of_answer (Ok o) buffer = take o.length buffer
+bytes_of_answer (Err r) buffer = []
 
 -- Entries, with their calls.
 
@@ -73,9 +73,9 @@ abbrev pub handed_count : List Entry → ℕ
 handed_count entries = length (filter (λ c. is_handed c.direction) (transcript_records entries))
 
 -- whether it was a record that was handed
-abbrev pub is_hand_over : Option SessionRecord → Bool
-is_hand_over None = false
-is_hand_over (Some x) = is_handed (direction_of x.direction)
+abbrev pub has_handed_record : Option SessionRecord → Bool
+has_handed_record None = false
+has_handed_record (Some x) = is_handed (direction_of x.direction)
 
 -- a send that is answered had data that a record holds
 abbrev pub FitsSend : Call → Result Outcome Refusal → Type 0

@@ -21,8 +21,8 @@ pub record IsReplay (s : Scheme) (m : Model) (calls : List Call) (left : Model) 
   -- the entity, its suite's meaning with it, is what the history leaves
   pub model : left ≡ entity_after s m (reverse calls)
   -- log and entries tell the history of these calls on this entity
-  pub told : transcript_history calls entries ≡ history s m (reverse calls)
-  -- there is an entry for each call, and a record stands at the entry of the call that sent it or handed it out
+  pub tells_history : transcript_history calls entries ≡ history s m (reverse calls)
+  -- there is an entry for each call, and a record stands at the entry of the call that sent it or handed it over
   pub in_place : HasRecordsInPlace [] calls entries
   -- the records that the entries tell are those of the history, session by session
   pub records : transcript_records entries ≡ session_records (history s m (reverse calls))
@@ -32,7 +32,7 @@ pub record IsReplay (s : Scheme) (m : Model) (calls : List Call) (left : Model) 
   pub kept : IsFresh m → KeepsPromises s left (transcript_history calls entries)
 
 -- For two fresh entities over suites that open alike, the calls of a log to each and the entries told: of a link session of my calls and one
--- of theirs, with one value of the two link keys, if mine got no ENC but copies of those sent in the two, the data that my entries tell as
+-- of theirs, with one value of the two link keys, if each ENC that mine got is a copy of one sent in the two, the data that my entries tell as
 -- handed in my session follow those that their entries tell as sent in theirs.
 abbrev pub RecordsFollow : (s t : Scheme) (m m' : Model) (calls calls' : List Call) (entries entries' : List Entry) →
     Type 0

@@ -3,8 +3,8 @@ ghost use Rattle.entity.specs.Views.{view};
 ghost use Rattle.replay.specs.LogViews.{logged_calls};
 ghost use Rattle.replay.specs.Replays.{AllPromises, IsReplay, RecordsFollow};
 
-use super::entry::{Entry, Written};
-use super::logged::Logged;
+use super::entry::{Entry, WrittenBytes};
+use super::logged::LoggedCall;
 use super::play::{longest, play};
 use entity::Entity;
 use protocol::Refusal;
@@ -21,12 +21,12 @@ pub struct Transcripts {
 }
 
 // Places for the entries of a log.
-fn places(alloc: Global, log: &[Logged<'_>]) -> Result<Vec<Entry>, AllocError>
+fn places(alloc: Global, log: &[LoggedCall<'_>]) -> Result<Vec<Entry>, AllocError>
     ensures { IfOk result (λ v. length v.items ≡ length log.now) }
 {
     let blank = Entry {
         answer: Err(Refusal::WrongState),
-        written: Written::nothing(),
+        written: WrittenBytes::nothing(),
         record: None,
     };
     vec![in alloc; blank; log.len()]
@@ -39,8 +39,8 @@ pub fn replay<S: Suite, T: Suite>(
     alloc: Global,
     one: &mut Entity<S>,
     other: &mut Entity<T>,
-    log: &[Logged<'_>],
-    other_log: &[Logged<'_>],
+    log: &[LoggedCall<'_>],
+    other_log: &[LoggedCall<'_>],
 ) -> Result<Transcripts, AllocError>
     ensures promised { AllPromises }
     ensures one { IfOk result (λ t. IsReplay S.scheme (view S.meaning one.old) (logged_calls log.now) (view S.meaning one.new) t.one.items) }

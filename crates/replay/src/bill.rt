@@ -1,11 +1,11 @@
 ghost use Rattle.std.specs.Prelude.{◌≡◌};
-ghost use Rattle.replay.specs.Entries.{handed_count, is_hand_over};
+ghost use Rattle.replay.specs.Entries.{handed_count, has_handed_record};
 
 use super::entry::{Direction, Entry, SessionRecord};
 
 // Returns whether the entry has a record that the user was handed.
 fn hands_over(entry: &Entry) -> bool
-    ensures { result ≡ is_hand_over entry.now.record }
+    ensures { result ≡ has_handed_record entry.now.record }
 {
     matches!(
         entry.record,

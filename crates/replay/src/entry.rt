@@ -6,31 +6,31 @@ use protocol::{Outcome, Refusal};
 
 /// The bytes that a call wrote to the front of its buffer, or the data of a record: at most 255.
 #[derive(Clone, Copy)]
-pub struct Written {
+pub struct WrittenBytes {
     bytes: [u8; MAX_FRAME],
     length: usize,
     ghost fits: { length ≤ MAX_FRAME },
 }
 
-impl Written {
+impl WrittenBytes {
     ghost use Rattle.replay.specs.Entries.{written_bytes};
 
-    pub(crate) fn nothing() -> Written
+    pub(crate) fn nothing() -> WrittenBytes
         ensures { written_bytes result ≡ [] }
     {
-        Written {
+        WrittenBytes {
             bytes: [0; MAX_FRAME],
             length: 0,
         }
     }
 
-    pub(crate) fn new(written: &[u8]) -> Written
+    pub(crate) fn new(written: &[u8]) -> WrittenBytes
         requires { length written.now ≤ MAX_FRAME }
         ensures { written_bytes result ≡ written.now }
     {
         let mut bytes = [0; MAX_FRAME];
         let length = write_front(written, &mut bytes).unwrap();
-        Written { bytes, length }
+        WrittenBytes { bytes, length }
     }
 
     /// The bytes that were written, and no others.
@@ -58,7 +58,7 @@ pub struct SessionRecord {
     /// Whether it was sent or handed over.
     pub direction: Direction,
     /// The record's data, 1 to 200 bytes.
-    pub plain: Written,
+    pub plain: WrittenBytes,
 }
 
 /// What one call of a log returned and wrote, and the record that it sent or handed over.
@@ -67,7 +67,7 @@ pub struct Entry {
     /// The outcome, or the refusal with its number, 1 to 10.
     pub answer: Result<Outcome, Refusal>,
     /// A frame to the peer, or what was retrieved; no byte if the call was refused.
-    pub written: Written,
+    pub written: WrittenBytes,
     /// The record sent or handed over by this call, if there is one. Records are counted by this alone: the data that is handed over
     /// stands in `written` too.
     pub record: Option<SessionRecord>,

@@ -11,5 +11,5 @@ mod play;
 
 pub use again::{Transcripts, replay};
 pub use bill::handed_count;
-pub use entry::{Direction, Entry, SessionRecord, Written};
-pub use logged::Logged;
+pub use entry::{Direction, Entry, SessionRecord, WrittenBytes};
+pub use logged::LoggedCall;

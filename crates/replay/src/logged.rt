@@ -6,14 +6,14 @@ use entity::Call;
 
 /// A call as a log has it.
 #[derive(Clone, Copy)]
-pub struct Logged<'a> {
+pub struct LoggedCall<'a> {
     /// The call, with what it was given.
     pub call: Call<'a>,
     /// How many bytes the buffer had that was passed with it. It may be any number.
     pub room: usize,
 }
 
-impl Logged<'_> {
+impl LoggedCall<'_> {
     // Does nothing: its contract tells a proof that each number that a call was given is a byte.
     pub(crate) fn given(&self)
         ensures { IsGivenBytes (logged_call self.now) }

@@ -3,8 +3,8 @@ ghost use Rattle.histories.specs.Records.{records_in, next_session};
 ghost use Rattle.replay.specs.LogViews.{logged_call};
 ghost use Rattle.replay.specs.Entries.{written_bytes, records_of, history_entry, FitsSend};
 
-use super::entry::{Direction, Entry, SessionRecord, Written};
-use super::logged::Logged;
+use super::entry::{Direction, Entry, SessionRecord, WrittenBytes};
+use super::logged::LoggedCall;
 use entity::Call;
 use protocol::{Confirmation, Outcome, Refusal};
 
@@ -27,9 +27,9 @@ pub(crate) fn next_session(session: u32, answer: Result<Outcome, Refusal>) -> u3
 // Returns the record that a call sent or handed over, if it did.
 fn record(
     session: u32,
-    logged: &Logged<'_>,
+    logged: &LoggedCall<'_>,
     answer: Result<Outcome, Refusal>,
-    written: Written,
+    written: WrittenBytes,
 ) -> Option<SessionRecord>
     requires { FitsSend (logged_call logged.now) answer }
     ensures { records_of result ≡ records_in session (record { call = logged_call logged.now; answer = answer; written = written_bytes written }) }
@@ -37,7 +37,7 @@ fn record(
     let outcome = answer.ok()?;
     let (direction, plain) = match logged.call {
         Call::Send { plain } if outcome.confirmation == Confirmation::DataSent => {
-            (Direction::Sent, Written::new(plain))
+            (Direction::Sent, WrittenBytes::new(plain))
         }
         Call::RetrieveData => (Direction::Handed, written),
         _ => return None,
@@ -52,9 +52,9 @@ fn record(
 // Returns the entry of a call that was made in that session.
 pub(crate) fn note(
     session: u32,
-    logged: &Logged<'_>,
+    logged: &LoggedCall<'_>,
     answer: Result<Outcome, Refusal>,
-    written: Written,
+    written: WrittenBytes,
 ) -> Entry
     requires { FitsSend (logged_call logged.now) answer }
     ensures told { history_entry (logged_call logged.now) result ≡ record { call = logged_call logged.now; answer = answer; written = written_bytes written } }

@@ -4,14 +4,14 @@ ghost use Rattle.replay.specs.LogViews.{logged_calls};
 ghost use Rattle.replay.specs.Replays.{IsReplay};
 
 use super::entry::Entry;
-use super::logged::Logged;
+use super::logged::LoggedCall;
 use super::make::make;
 use super::note::{next_session, note};
 use entity::Entity;
 use suite::Suite;
 
 // Returns the length of the longest buffer that a call of the log had.
-pub(crate) fn longest(log: &[Logged<'_>]) -> usize
+pub(crate) fn longest(log: &[LoggedCall<'_>]) -> usize
     ensures { All (λ x. x.room ≤ result) log.now }
 {
     let mut most = 0;
@@ -24,7 +24,7 @@ pub(crate) fn longest(log: &[Logged<'_>]) -> usize
 // Makes the calls of a log in turn, and writes the entry of each to its place in `entries`.
 pub(crate) fn play<S: Suite>(
     entity: &mut Entity<S>,
-    log: &[Logged<'_>],
+    log: &[LoggedCall<'_>],
     buffer: &mut [u8],
     entries: &mut [Entry],
 )

@@ -33,11 +33,11 @@ after_making m kind (Err e) = m
 
 -- The conditions of a denial.
 
--- a seed has sixteen bytes
+-- whether a seed does not have sixteen bytes
 abbrev pub is_wrong_seed : List ℕ → Bool
 is_wrong_seed seed = not (length seed == 16)
 
--- a buffer takes any frame
+-- whether a buffer of that length does not take every frame
 abbrev pub is_short_buffer : ℕ → Bool
 is_short_buffer room = nat_lt room MAX_FRAME
 
@@ -105,7 +105,7 @@ buffer_after_open (Ok (Some t)) buffer = with_front t.2 buffer
 buffer_after_open (Ok None) buffer = buffer
 buffer_after_open (Err e) buffer = buffer
 
--- whether a key of that serial is live
+-- unknown if no key of that serial is live
 abbrev pub destroy_result : Meaning → ℕ → Result (Unit {0}) Denial
 destroy_result m key = cond (is_live m.live key) (Ok tt) (Err Unknown)
 

@@ -54,7 +54,7 @@ pub record IsSealable (s : Scheme) (n : ℕ) (plain : List ℕ) : Type 0 where
   pub high : n ≤ s.final
 
 -- a keyring under that root
-pub record IsUnder (root : List ℕ) (k : Keyring) : Type 0 where
+pub record IsFormedUnder (root : List ℕ) (k : Keyring) : Type 0 where
   pub formed : IsFormed k
   pub same : k.root ≡ root
 
@@ -82,10 +82,10 @@ pub record IsLawful (s : Scheme) : Type 0 where
   pub seal_bytes : (k : Keyring) (value plain : List ℕ) (serial role n : ℕ) → IsFormed k → IsBytes16 value →
       is_role role ≡ true → IsSealable s n plain → IsBytes (s.seal_of k serial value role n plain)
   -- under one root each written offer is fit, and the two peers' agreements on each other's offers give equal values
-  pub fits : (root : List ℕ) (k k' : Keyring) (seed : List ℕ) → IsUnder root k → IsUnder root k' →
+  pub fits : (root : List ℕ) (k k' : Keyring) (seed : List ℕ) → IsFormedUnder root k → IsFormedUnder root k' →
       IsBytes16 seed → s.fit_of k' (s.offer_of k seed) ≡ true
-  pub agrees : (root : List ℕ) (k k' j j' : Keyring) (one other : List ℕ) → IsUnder root k → IsUnder root k' →
-      IsUnder root j → IsUnder root j' → IsBytes16 one → IsBytes16 other →
+  pub agrees : (root : List ℕ) (k k' j j' : Keyring) (one other : List ℕ) → IsFormedUnder root k → IsFormedUnder root k' →
+      IsFormedUnder root j → IsFormedUnder root j' → IsBytes16 one → IsBytes16 other →
       s.secret_of k (role_byte Sender) one (s.offer_of j' other) ≡ s.secret_of k' (role_byte Recipient) other (s.offer_of j one)
   -- opening under an equal value gives back what was sealed, whatever else the two suites mean and whatever the two serials
   pub opens : (k k' : Keyring) (value plain : List ℕ) (serial serial' role n : ℕ) → IsFormed k → IsFormed k' →
@@ -107,7 +107,7 @@ pub record IsOneKind (s t : Scheme) : Type 0 where
 -- What is asked of a kind of suite beyond its laws: under one root, check values and link keys depend on the value of the shared secret alone,
 -- whatever serials and other keys the suites have. Two peers may have made different keys before, and must get equal ones.
 pub record DependsOnRootAndValue (s : Scheme) : Type 0 where
-  pub checks : (root : List ℕ) (k k' : Keyring) (value : List ℕ) (serial serial' role : ℕ) → IsUnder root k →
-      IsUnder root k' → s.check_of k serial value role ≡ s.check_of k' serial' value role
-  pub links : (root : List ℕ) (k k' : Keyring) (value : List ℕ) (serial serial' : ℕ) → IsUnder root k →
-      IsUnder root k' → s.link_of k serial value ≡ s.link_of k' serial' value
+  pub checks : (root : List ℕ) (k k' : Keyring) (value : List ℕ) (serial serial' role : ℕ) → IsFormedUnder root k →
+      IsFormedUnder root k' → s.check_of k serial value role ≡ s.check_of k' serial' value role
+  pub links : (root : List ℕ) (k k' : Keyring) (value : List ℕ) (serial serial' : ℕ) → IsFormedUnder root k →
+      IsFormedUnder root k' → s.link_of k serial value ≡ s.link_of k' serial' value

@@ -8,18 +8,18 @@ use Rattle.suite.specs.declared.types.Denial.{Denial}
 use Rattle.suite.specs.declared.types.Denial.TheVariants.{BadOffer, Spent, Unfit, Unknown}
 
 -- what is printed of a role
-abbrev pub role_text : Role → List ℕ
-role_text Sender = codes "Sender"
-role_text Recipient = codes "Recipient"
+abbrev pub role_words : Role → List ℕ
+role_words Sender = codes "Sender"
+role_words Recipient = codes "Recipient"
 
 -- of a kind of key
-abbrev pub kind_text : KeyKind → List ℕ
-kind_text SharedSecret = codes "shared secret"
-kind_text LinkKey = codes "link key"
+abbrev pub kind_words : KeyKind → List ℕ
+kind_words SharedSecret = codes "shared secret"
+kind_words LinkKey = codes "link key"
 
 -- of a denial
-abbrev pub denial_text : Denial → List ℕ
-denial_text BadOffer = codes "S2, the offer is not fit"
-denial_text Spent = codes "S3, no further key"
-denial_text Unfit = codes "unfit"
-denial_text Unknown = codes "unknown key"
+abbrev pub denial_words : Denial → List ℕ
+denial_words BadOffer = codes "S2, the offer is not fit"
+denial_words Spent = codes "S3, no further key"
+denial_words Unfit = codes "unfit"
+denial_words Unknown = codes "unknown key"

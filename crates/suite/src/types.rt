@@ -1,6 +1,6 @@
 ghost use Rattle.std.specs.Prelude.{◌≡◌, Some};
 ghost use Rattle.suite.specs.Numbers.{role_byte, role_of, kind_number, denial_number};
-ghost use Rattle.suite.specs.Words.{role_text, kind_text, denial_text};
+ghost use Rattle.suite.specs.Words.{role_words, kind_words, denial_words};
 
 use std::error::Error;
 use std::fmt;
@@ -40,7 +40,7 @@ impl TryFrom<u8> for Role {
 
 // `Display` by hand, here and below: no derive writes it with a contract.
 impl fmt::Display for Role {
-    ghost output = { λ role. Some (role_text role) };
+    ghost output = { λ role. Some (role_words role) };
 
     fn fmt<W: fmt::Write>(&self, f: &mut fmt::Formatter<W>) -> fmt::Result {
         f.write_str(match self {
@@ -69,7 +69,7 @@ impl KeyKind {
 }
 
 impl fmt::Display for KeyKind {
-    ghost output = { λ kind. Some (kind_text kind) };
+    ghost output = { λ kind. Some (kind_words kind) };
 
     fn fmt<W: fmt::Write>(&self, f: &mut fmt::Formatter<W>) -> fmt::Result {
         f.write_str(match self {
@@ -102,7 +102,7 @@ impl Denial {
 }
 
 impl fmt::Display for Denial {
-    ghost output = { λ denial. Some (denial_text denial) };
+    ghost output = { λ denial. Some (denial_words denial) };
 
     fn fmt<W: fmt::Write>(&self, f: &mut fmt::Formatter<W>) -> fmt::Result {
         f.write_str(match self {

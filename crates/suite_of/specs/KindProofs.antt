@@ -5,7 +5,7 @@ use Rattle.std.proofs.lemmas.Bool.{eq-eqb, eqb-true}
 use Rattle.suite.specs.declared.types.Role.TheVariants.{Sender, Recipient}
 use Rattle.suite.specs.Meanings.{IsBytes, IsBytes16, Keyring}
 use Rattle.suite.specs.Numbers.{role_byte}
-use Rattle.suite.specs.Schemes.{IsLawful, IsUnder}
+use Rattle.suite.specs.Schemes.{IsLawful, IsFormedUnder}
 use Rattle.suite_of.specs.Kinds.{KindFunctions, scheme_of, IsLawfulKind}
 use Rattle.suite_of.specs.Payloads.{payload_body, with_field}
 use Rattle.suite_of.specs.PayloadProofs.{closed-length, closed-bytes, body-length, reads_back}
@@ -41,7 +41,7 @@ lawful_scheme k s =
     most h = let b = s.final_bound in omega arith
 
     -- the two peers' secrets, their suites under one root
-    equal_secrets : (root : List ℕ) (keyring keyring' : Keyring) (one other : List ℕ) → IsUnder root keyring → IsUnder root keyring' → IsBytes16 one → IsBytes16 other → k.secret_of keyring.root (role_byte Sender) one other ≡ k.secret_of keyring'.root (role_byte Recipient) other one
+    equal_secrets : (root : List ℕ) (keyring keyring' : Keyring) (one other : List ℕ) → IsFormedUnder root keyring → IsFormedUnder root keyring' → IsBytes16 one → IsBytes16 other → k.secret_of keyring.root (role_byte Sender) one other ≡ k.secret_of keyring'.root (role_byte Recipient) other one
     equal_secrets root keyring keyring' one other u u' p q =
         let e = s.agrees keyring.root one other u.formed.root p q in
         let same = u.same in

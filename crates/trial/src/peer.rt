@@ -1,6 +1,6 @@
 // A peer with its suite. Each action prints a line.
 ghost use Rattle.std.specs.Prelude.{Some};
-ghost use Rattle.trial.specs.Words.{key_text};
+ghost use Rattle.trial.specs.Words.{key_words};
 
 use super::stopped::Stopped;
 use buffers::MAX_FRAME;
@@ -15,7 +15,7 @@ pub(super) struct Key {
 }
 
 impl fmt::Display for Key {
-    ghost output = { λ key. Some (key_text key) };
+    ghost output = { λ key. Some (key_words key) };
 
     fn fmt<W: fmt::Write>(&self, f: &mut fmt::Formatter<W>) -> fmt::Result {
         write!(f, "{}, serial {}", self.kind, self.serial)

@@ -9,7 +9,7 @@ ghost use Rattle.entity.specs.Views.{view};
 ghost use Rattle.entity.specs.ResultViews.{reading_parts, machine_result};
 
 use super::Entity;
-use crate::ancillary::{Ancillary, Fitted};
+use crate::ancillary::{Ancillary, FittedAncillary};
 use crate::bytes::has_room;
 use buffers::{MAX_FRAME, MAX_PAYLOAD};
 use frame::{Body, CodecFault, Message, ReadError, read};
@@ -46,7 +46,7 @@ impl<S: Suite> Entity<S> {
         &mut self,
         sep: u8,
         received: Result<Message<'_>, CodecFault>,
-        beside: Fitted<'_>,
+        beside: FittedAncillary<'_>,
         reply: &mut [u8],
     ) -> Result<Outcome, Fault>
         requires room { MAX_FRAME ≤ length reply.old }

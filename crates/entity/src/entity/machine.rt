@@ -6,7 +6,7 @@ ghost use Rattle.entity.specs.Views.{view};
 ghost use Rattle.entity.specs.ResultViews.{reading_parts, session_result};
 
 use super::Entity;
-use crate::ancillary::Fitted;
+use crate::ancillary::FittedAncillary;
 use buffers::{MAX_FRAME, MAX_PAYLOAD};
 use frame::{Body, CodecFault, Message, Service};
 use protocol::{Cause, Confirmation, FaultInState, MachineFault, Outcome, State, in_state};
@@ -38,7 +38,7 @@ impl<S: Suite> Entity<S> {
     pub(super) fn step(
         &mut self,
         received: Result<Message<'_>, CodecFault>,
-        beside: Fitted<'_>,
+        beside: FittedAncillary<'_>,
         reply: &mut [u8],
     ) -> Result<Outcome, MachineFault>
         requires room { MAX_FRAME ≤ length reply.old }

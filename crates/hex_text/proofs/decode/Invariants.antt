@@ -3,7 +3,7 @@ use Rattle.hex_text.specs.Hex.{bytes_of}
 use Rattle.hex_text.proofs.DecodeSteps.{state}
 use Rattle.hex_text.proofs.decode.Given as goal
 
--- what was read and what is left come to what the whole text reads as
+-- what was read and what is left are, together, what the whole text reads as
 abbrev pub invariant-loop-rest : goal.invariant-loop-rest
 invariant-loop-rest l = record {
   within : length l.rest ≤ length l.text;
