@@ -44,10 +44,10 @@ pub(super) trait Board {
     fn draw_seed(&mut self, seed: &mut [u8; 16]) -> Result<(), Self::Error>
         ensures { OnErr result (seed.new ≡ seed.old) };
 
-    /// A record came from the peer, 1 to 200 bytes. They are zeros afterwards.
+    /// A record came from the peer, 1 to 200 bytes. The loop clears them after this call, so what is needed has to be copied.
     fn take_record(&mut self, record: &[u8]) -> Result<(), Self::Error>;
 
-    /// The secret that both devices share now. The bytes are zeros afterwards.
+    /// The secret that both devices share now. The loop clears it after this call, so what is needed has to be copied.
     fn take_secret(&mut self, secret: &[u8; 16]) -> Result<(), Self::Error>;
 
     /// What a call confirmed (0 to 6), and whether its frame was delivered; true also where it wrote none.

@@ -10,7 +10,7 @@ use nfc_sec::{
     Slip, State,
 };
 
-// How often a frame is transmitted that is not delivered, before the link is given up.
+// How often a frame is transmitted that is not delivered, before the session is given up.
 const TRIES: usize = 3;
 
 /// An entity on a board, for one link.
@@ -57,17 +57,23 @@ impl<'a, B: Board, S: Suite> Device<'a, B, S> {
     /// The main loop: serves the link until it is released.
     pub(super) fn run(&mut self) -> Result<(), B::Error> {
         let mut buffer = [0; MAX_FRAME];
+        let done = self.serve_events(&mut buffer);
+        buffer.fill(0);
+        done?;
+        self.release()
+    }
+
+    fn serve_events(&mut self, buffer: &mut [u8; MAX_FRAME]) -> Result<(), B::Error> {
         // Every loop is proved to end: this one by a count that no device reaches.
         for _ in 0..u64::MAX {
-            let Some(event) = self.board.next_event(&mut buffer)? else {
+            let Some(event) = self.board.next_event(buffer)? else {
                 break;
             };
-            let done = self.step(event);
+            self.step(event)?;
             // The application's record lay here, or what came over the link.
             buffer.fill(0);
-            done?;
         }
-        self.release()
+        Ok(())
     }
 
     fn step(&mut self, event: Event<'_>) -> Result<(), B::Error> {

@@ -139,6 +139,7 @@ pub enum Body<'a> {
 /// A message, as the reader returns it and the writer takes it.
 #[derive(Clone, Copy, Debug, PartialEq, Eq)]
 pub struct Message<'a> {
+    /// The service that the SVC bits of SEP name.
     pub service: Service,
     /// Which message it is, with PID and payload.
     pub body: Body<'a>,

@@ -20,7 +20,7 @@ pub(super) struct Frame {
 
 impl Frame {
     pub(super) fn new(answer: Result<Outcome, Refusal>, bytes: [u8; MAX_FRAME]) -> Frame
-        requires { IfOk answer (λ o. o.length ≤ 255) }
+        requires { IfOk answer (λ o. o.length ≤ MAX_FRAME) }
     {
         let length = match answer {
             Ok(outcome) => outcome.length as u8,

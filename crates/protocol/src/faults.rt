@@ -135,13 +135,16 @@ impl From<SuiteFault> for Cause {
 /// The machine's fault: a cause, and the state that it was met in.
 #[derive(Clone, Copy, Debug, PartialEq, Eq)]
 pub struct MachineFault {
+    /// What is wrong with the frame.
     pub cause: Cause,
+    /// The state before the frame was taken.
     pub state: State,
 }
 
 /// The entity's fault, as an outcome reports it: the machine's, and the message at which it was met.
 #[derive(Clone, Copy, Debug, PartialEq, Eq)]
 pub struct Fault {
+    /// The cause, and the state that it was met in.
     pub machine: MachineFault,
     /// The low four bits of the frame's first byte, even where these are the code of no message.
     pub message: u8,
@@ -172,6 +175,7 @@ impl Error for Fault {}
 pub struct FaultInState<E> {
     /// The fault: of the codec, of the suite, or a cause already.
     pub fault: E,
+    /// The state that it was met in.
     pub state: State,
 }
 
@@ -193,6 +197,7 @@ where
 /// The machine's fault on its way up, with the message at which it was met. `?` makes a `Fault` of it.
 #[derive(Drop)]
 pub struct FaultAtMessage<E> {
+    /// The fault, as the machine met it.
     pub fault: E,
     /// The low four bits of the frame's first byte.
     pub message: u8,
