@@ -2,7 +2,6 @@
 use Rattle.std.specs.Prelude.{ℕ, ◌/◌, ◌%◌, cond, List, ◌∷◌, ◌++◌, take, replicate, ◌==◌, slice_index}
 use Rattle.aes128.specs.Cipher.{cipher_with, schedule}
 use Rattle.cmac.specs.Cmac.{cmac}
-use Rattle.suite.specs.declared.limits.TheConstants.{MAX_NUMBER}
 use Rattle.suite.specs.declared.types.Role.TheVariants.{Sender}
 use Rattle.suite.specs.Numbers.{role_byte}
 use Rattle.suite_of.specs.Payloads.{four_bytes}
@@ -34,7 +33,7 @@ keyed_functions = record {
   pid = 0xF1;
   check_length = 8;
   field_length = 8;
-  final = MAX_NUMBER;
+  final = 16777215;
   secret_of = secret_of;
   check_of = λ value role. take 8 (cmac value (role ∷ replicate 15 0));
   link_of = λ value. cmac value (replicate 16 3);

@@ -5,7 +5,7 @@ ghost use Rattle.keyed_suite.specs.KeyedProofs.{keyed_lawful};
 use super::stream::add_stream;
 use aes128::Aes128;
 use cmac::cmac;
-use suite::{KindNumbers, MAX_NUMBER, Role};
+use suite::{KindNumbers, Role};
 use suite_of::{Kind, SuiteOf};
 
 const NUMBERS: KindNumbers = KindNumbers {
@@ -14,7 +14,7 @@ const NUMBERS: KindNumbers = KindNumbers {
     check_length: 8,
     overhead: 13,
     first_number: 0,
-    last_number: MAX_NUMBER,
+    last_number: 16_777_215,
 };
 
 /// The kind of the keyed suite, PID F1: AES-CMAC makes keys, check values and tags, AES-128 the stream of a record.
