@@ -1,0 +1,5 @@
+pub mod Numbers
+pub mod Letters
+pub mod Words
+pub mod Sheets
+pub mod Readings
