@@ -1,6 +1,6 @@
 -- One more call of a log.
-use Rattle.std.proofs.Common.{◌≡◌, ℕ, ◌+◌, ◌<◌, List, [], ◌∷◌, ◌++◌, length, take, drop, set, get_or, reverse, refl, sym, ap, ◌∙◌, subst, append_assoc, append-nil, arith, length-take, Result}
-use Rattle.std.proofs.lemmas.List.{take_more, take_more_set, reverse-append, map-append, length-map}
+use Rattle.std.proofs.Common.{◌≡◌, ℕ, zero, suc, min, ◌+◌, ◌<◌, List, [], ◌∷◌, ◌++◌, length, take, drop, set, get_or, reverse, refl, sym, ap, ◌∙◌, subst, append_assoc, append-nil, arith, length-take, Result}
+use Rattle.std.proofs.lemmas.List.{take_more, take_more_set, take-map, reverse-append, map-append, length-map}
 use Rattle.std.proofs.Math.Seq.{take-append_seam}
 use Rattle.std.specs.List.{AllByRecursion}
 use Rattle.protocol.specs.declared.outcomes.Outcome.{Outcome}
@@ -24,8 +24,8 @@ pub calls_more : (log : List LoggedCall) (i : ℕ) (x : LoggedCall) → i < leng
 calls_more log i x h = ap reverse (calls_on log i x h) ∙ reverse-append (logged_calls (take i log)) (logged_call (get_or log i x) ∷ [])
 
 -- there are as many calls as entries so far
-as_many : (log : List LoggedCall) (entries : List Entry) (i : ℕ) → i < length log → length entries ≡ length log → length (logged_calls (take i log)) ≡ length (take i entries)
-as_many log entries i h long = length-map (take i log) logged_call ∙ simp length-take (omega arith)
+as_many : (log : List LoggedCall) (entries : List Entry) (i : ℕ) → i < length log → i < length entries → length (logged_calls (take i log)) ≡ length (take i entries)
+as_many log entries i h low = length-map (take i log) logged_call ∙ simp length-take (omega arith)
 
 each_more : (cs : List Call) (es : List Entry) (c : Call) (e : Entry) → length cs ≡ length es → history_entries (cs ++ (c ∷ [])) (es ++ (e ∷ [])) ≡ history_entries cs es ++ (history_entry c e ∷ [])
 each_more [] [] c e h = refl
@@ -33,14 +33,41 @@ each_more [] (x ∷ es) c e h = absurd (omega arith)
 each_more (k ∷ cs) [] c e h = absurd (omega arith)
 each_more (k ∷ cs) (x ∷ es) c e h = ap (λ z. history_entry k x ∷ z) (each_more cs es c e (omega arith))
 
+-- one call and one entry more, at the end
+told_on : (cs : List Call) (es : List Entry) (c : Call) (e : Entry) → length cs ≡ length es → transcript_history (cs ++ (c ∷ [])) (es ++ (e ∷ [])) ≡ history_entry c e ∷ transcript_history cs es
+told_on cs es c e long = ap reverse (each_more cs es c e long) ∙ reverse-append (history_entries cs es) (history_entry c e ∷ [])
+
 pub told_more : (log : List LoggedCall) (entries : List Entry) (i : ℕ) (x : LoggedCall) (e : Entry) → i < length log → length entries ≡ length log
     → transcript_history (logged_calls (take (i + 1) log)) (take (i + 1) (set entries i e)) ≡ history_entry (logged_call (get_or log i x)) e ∷ transcript_history (logged_calls (take i log)) (take i entries)
 told_more log entries i x e h long =
     let low : i < length entries = omega arith in
     ap (λ z. transcript_history z (take (i + 1) (set entries i e))) (calls_on log i x h)
     ∙ ap (transcript_history (logged_calls (take i log) ++ (logged_call (get_or log i x) ∷ []))) (take_more_set entries i e low)
-    ∙ ap reverse (each_more (logged_calls (take i log)) (take i entries) (logged_call (get_or log i x)) e (as_many log entries i h long))
-    ∙ reverse-append (history_entries (logged_calls (take i log)) (take i entries)) (history_entry (logged_call (get_or log i x)) e ∷ [])
+    ∙ told_on (logged_calls (take i log)) (take i entries) (logged_call (get_or log i x)) e (as_many log entries i h low)
+
+-- a log and entries that are there, read on by one
+pub told_next : (log : List LoggedCall) (entries : List Entry) (i : ℕ) (x : LoggedCall) (e : Entry) → i < length log → i < length entries
+    → transcript_history (logged_calls (take (i + 1) log)) (take (i + 1) entries) ≡ history_entry (logged_call (get_or log i x)) (get_or entries i e) ∷ transcript_history (logged_calls (take i log)) (take i entries)
+told_next log entries i x e h low =
+    ap (λ z. transcript_history z (take (i + 1) entries)) (calls_on log i x h)
+    ∙ ap (transcript_history (logged_calls (take i log) ++ (logged_call (get_or log i x) ∷ []))) (take_more entries i e low)
+    ∙ told_on (logged_calls (take i log)) (take i entries) (logged_call (get_or log i x)) (get_or entries i e) (as_many log entries i h low)
+
+-- where one list has no more, the rest of the other tells nothing
+all_told : (n : ℕ) (cs : List Call) (es : List Entry) → n ≡ min (length cs) (length es) → history_entries (take n cs) (take n es) ≡ history_entries cs es
+all_told zero [] es p = refl
+all_told (suc n) [] es p = refl
+all_told zero (c ∷ cs) [] p = refl
+all_told (suc n) (c ∷ cs) [] p = refl
+all_told zero (c ∷ cs) (e ∷ es) p = absurd (grind arith)
+all_told (suc n) (c ∷ cs) (e ∷ es) p = ap (λ z. history_entry c e ∷ z) (all_told n cs es (grind arith))
+
+-- as much of both as there is
+pub told_all : (log : List LoggedCall) (entries : List Entry) (i : ℕ) → i ≡ min (length log) (length entries) → transcript_history (logged_calls (take i log)) (take i entries) ≡ transcript_history (logged_calls log) entries
+told_all log entries i p =
+    let cs = logged_calls log in
+    let n : i ≡ min (length cs) (length entries) = p ∙ ap (λ k. min k (length entries)) (sym (length-map log logged_call)) in
+    ap (λ z. transcript_history z (take i entries)) (sym (take-map logged_call i log)) ∙ ap reverse (all_told i cs entries n)
 
 -- one entry more, at the end, tells the record of its call
 in_place_on : (before : h.History) (cs : List Call) (es : List Entry) (c : Call) (e : Entry) → HasRecordsInPlace before cs es → records_of e.record ≡ records_in (running_session (transcript_history cs es ++ before)) (history_entry c e) → HasRecordsInPlace before (cs ++ (c ∷ [])) (es ++ (e ∷ []))

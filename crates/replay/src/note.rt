@@ -1,4 +1,5 @@
 ghost use Rattle.std.specs.Prelude.{◌≡◌, ◌≤◌, length, Ok, IfOk};
+ghost use Rattle.histories.specs.Histories.{is_member, serials_destroyed_in};
 ghost use Rattle.histories.specs.Records.{records_in, next_session};
 ghost use Rattle.replay.specs.LogViews.{logged_call};
 ghost use Rattle.replay.specs.Entries.{written_bytes, records_of, history_entry, FitsSend};
@@ -7,6 +8,18 @@ use super::entry::{Direction, Entry, SessionRecord, WrittenBytes};
 use super::logged::LoggedCall;
 use entity::Call;
 use protocol::{Confirmation, Outcome, Refusal};
+
+// Returns whether an answer reports the key with this serial destroyed. 0 is no key.
+pub(crate) fn is_reported_destroyed(serial: u32, answer: Result<Outcome, Refusal>) -> bool
+    ensures { result ≡ is_member serial (serials_destroyed_in answer) }
+{
+    match answer {
+        Ok(Outcome { destroyed, .. }) => {
+            serial != 0 && (destroyed.link == serial || destroyed.secret == serial)
+        }
+        Err(_) => false,
+    }
+}
 
 // Returns the link session that runs after a call, by its key's serial: 0 for none.
 pub(crate) fn next_session(session: u32, answer: Result<Outcome, Refusal>) -> u32
@@ -18,7 +31,7 @@ pub(crate) fn next_session(session: u32, answer: Result<Outcome, Refusal>) -> u3
     if outcome.confirmation == Confirmation::Established && outcome.made != 0 {
         return outcome.made;
     }
-    if session != 0 && (outcome.destroyed.link == session || outcome.destroyed.secret == session) {
+    if is_reported_destroyed(session, answer) {
         return 0;
     }
     session
