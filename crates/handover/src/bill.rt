@@ -1,8 +1,9 @@
-// Makes the calls of two logs again: the records that were sent and handed over, session by session.
+// Makes the calls of two logs again: the records that were sent and handed over, session by session, and the sessions of the sheet.
 use super::log::StationCall;
 use super::stopped::Stopped;
 use entity::Entity;
-use replay::{Direction, Entry, LoggedCall, SessionRecord, handed_count, replay};
+use replay::{Direction, Entry, LoggedCall, SessionRecord, handed_count, replay, sheet_records};
+use service_sheet::SheetRecord;
 use std::alloc::{AllocError, Global};
 use suite::Suite;
 
@@ -36,13 +37,13 @@ fn show_records(rt: &HostRuntime, name: &str, entries: &[Entry]) -> Result<(), S
     Ok(())
 }
 
-// Prints what each user sent and was handed. What the handset was handed is charged.
+// Prints what each user sent and was handed; what the handset was handed is charged. Returns the handset's sessions, for the sheet.
 pub(super) fn bill<S: Suite, T: Suite>(
     rt: &HostRuntime,
     handset: &mut Entity<S>,
     controller: &mut Entity<T>,
     logs: &Logs,
-) -> Result<(), Stopped> {
+) -> Result<Vec<SheetRecord>, Stopped> {
     let alloc = rt.alloc();
     let one = calls(alloc, &logs.handset)?;
     let other = calls(alloc, &logs.controller)?;
@@ -50,5 +51,6 @@ pub(super) fn bill<S: Suite, T: Suite>(
     show_records(rt, "controller", &told.other)?;
     show_records(rt, "handset", &told.one)?;
     let charged = handed_count(&told.one);
-    Ok(println!(rt; "  charged: {charged} records")?)
+    println!(rt; "  charged: {charged} records")?;
+    Ok(sheet_records(alloc, &one, &told.one)?)
 }

@@ -1,11 +1,12 @@
 // A controller hands a day's dosing records to a handset, over a link that loses, repeats and echoes frames. Each call is printed; then the
-// calls of both devices are made again from their logs, which gives the number of records to be charged.
+// calls of both devices are made again from their logs, which gives the number of records to be charged, and the service sheet of the day.
 #![tactic(auto)]
 
 mod bill;
 mod day;
 mod link;
 mod log;
+mod sheet;
 mod station;
 mod stopped;
 
@@ -15,6 +16,8 @@ use day::{EVENING, MORNING, Record};
 use entity::Entity;
 use keyed_suite::KeyedSuite;
 use link::{activate, hand_over, terminate};
+use service_sheet::SheetRecord;
+use sheet::show_sheet;
 use station::Station;
 use std::io;
 use stopped::Stopped;
@@ -87,8 +90,8 @@ fn live(rt: &HostRuntime) -> Result<Logs, Stopped> {
     })
 }
 
-// The bill: makes the same calls again, on two new entities.
-fn again(rt: &HostRuntime, logs: &Logs) -> Result<(), Stopped> {
+// The bill: makes the same calls again, on two new entities. Returns the sessions of the sheet.
+fn again(rt: &HostRuntime, logs: &Logs) -> Result<Vec<SheetRecord>, Stopped> {
     let (one, other) = (agreed()?, agreed()?);
     let mut handset = Entity::new(one, suite());
     let mut controller = Entity::new(other, suite());
@@ -97,13 +100,16 @@ fn again(rt: &HostRuntime, logs: &Logs) -> Result<(), Stopped> {
         end(rt, "handset", handset),
         end(rt, "controller", controller),
     );
-    result?;
+    let records = result?;
     ended.0?;
-    Ok(ended.1?)
+    ended.1?;
+    Ok(records)
 }
 
 fn main(rt: HostRuntime) -> Result<(), Stopped> {
     let logs = live(&rt)?;
     println!(rt; "The logs made again")?;
-    again(&rt, &logs)
+    let records = again(&rt, &logs)?;
+    println!(rt; "The service sheet of the handset")?;
+    show_sheet(&rt, &records)
 }

@@ -8,6 +8,8 @@ use thiserror::Error;
 pub enum Stopped {
     #[error("the activation is refused: {0}")]
     Refused(#[from] Refusal),
+    #[error("the sheet is refused: {0}")]
+    Sheet(#[from] service_sheet::Refusal),
     #[error(transparent)]
     Io(#[from] io::Error),
 }

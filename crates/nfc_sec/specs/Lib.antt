@@ -10,3 +10,4 @@ pub use Rattle.quota.specs as quota
 pub use Rattle.replay.specs as replay
 pub use Rattle.suite.specs as suite
 pub use Rattle.suite_of.specs as suite_of
+pub use Rattle.service_sheet.specs as service_sheet

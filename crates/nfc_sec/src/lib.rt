@@ -32,10 +32,17 @@ pub mod layers {
     pub use suite::Layer;
 }
 
-/// Logs: their calls made again, and the records that were sent and handed. This allocates.
+/// Logs: their calls made again, the records that were sent and handed, and the sessions for the service sheet. This allocates.
 pub mod log {
     pub use replay::{
         Direction, Entry, LoggedCall, SessionRecord, Transcripts, WrittenBytes, handed_count,
-        replay,
+        replay, sheet_records,
+    };
+}
+
+/// The service sheet: a line for each session of a visit, and a line with the totals. Its refusals are 15 to 17.
+pub mod sheet {
+    pub use service_sheet::{
+        End, LINE, MAX_COUNT, MAX_RECORDS, MAX_SESSION, MAX_SHEET, Refusal, SheetRecord, write,
     };
 }
