@@ -1,4 +1,4 @@
-# make run: build the main program and run it: a day's records handed over, and the bill
+# make run: build the main program and run it: a day's records handed over, the bill and the service sheet
 # make test: the whole gate
 
 .PHONY: run test bench
