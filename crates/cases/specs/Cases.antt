@@ -2,7 +2,6 @@
 use Rattle.std.specs.Prelude.{◌≡◌, ℕ, List, [], ◌∷◌, replicate, Some, None, Ok, Err, Option, Result}
 use Rattle.buffers.specs.declared.limits.TheConstants.{MAX_FRAME, MAX_PAYLOAD}
 use Rattle.suite.specs.declared.limits.TheConstants.{MAX_DATA, MAX_NUMBER}
-use Rattle.service_sheet.specs.declared.limits.TheConstants.{LINE, MAX_RECORDS, MAX_SHEET, MAX_SESSION, MAX_COUNT}
 use Rattle.frame.specs.declared.types.Service.TheVariants.{Sch}
 use Rattle.frame.specs.declared.faults.FaultCode.{FaultCode}
 use Rattle.bench_suite.specs.Benches.{bench_scheme}
@@ -138,8 +137,6 @@ vfy_req_receipt_of_one_key = receipt act_req_receipt_of_one_key.model vfy_req_ca
 pub record Cases : Type 0 where
   -- the limits: the bytes of a frame, of its payload and of the data of a record, and the highest number
   pub limits : (MAX_FRAME ≡ 255) × (MAX_PAYLOAD ≡ 254) × (MAX_DATA ≡ 200) × (MAX_NUMBER ≡ 16777215)
-  -- of a service sheet: the bytes of a line, the session records, the bytes of the longest sheet, the highest session number and count
-  pub sheet_limits : (LINE ≡ 29) × (MAX_RECORDS ≡ 200) × (MAX_SHEET ≡ 5829) × (MAX_SESSION ≡ 999999) × (MAX_COUNT ≡ 49999)
   -- the activation: what is written, and that both confirm it
   pub act_req_bytes : act_req_call.reply ≡ 0x10 ∷ 0xF0 ∷ ones
   pub act_res_bytes : act_res_call.reply ≡ 0x11 ∷ twos

@@ -6,7 +6,7 @@ use frame::Service;
 /// How a session ended.
 #[derive(Clone, Copy, Debug, PartialEq, Eq)]
 pub enum End {
-    /// A user of either peer ended it: `T`.
+    /// By the user's terminate, or a TMN from the peer: `T`.
     Terminated,
     /// A fault, or an ERROR frame: `E`.
     Error,
