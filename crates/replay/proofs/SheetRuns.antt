@@ -21,7 +21,7 @@ use Rattle.promises.proofs.Requests.{did}
 use Rattle.promises.proofs.Runs.{Holds, holds, starts_none}
 use Rattle.replay.specs.declared.entry.Entry as t
 use Rattle.replay.specs.Entries.{transcript_history}
-use Rattle.replay.specs.SheetRecords.{last_number, last_made, sse_started, RunsSse, starts, goes_on, HasEndedSse, ends, stays, RunsAs, HasEndedAs, session_begun, sheet_records, BeginsWith, end_by, HasEnd, TellsSessions, TellsEveryRun, TellsReplay}
+use Rattle.replay.specs.SheetRecords.{last_number, last_made, sse_started, RunsSse, starts, goes_on, HasEndedSse, ends, stays, RunsAs, HasEndedAs, session_begun, sheet_record, sheet_records, BeginsWith, IsRecordOf, end_by, HasEnd, TellsSessions, TellsEveryRun, TellsReplay}
 use Rattle.replay.proofs.Moves.{IsQuiet, IsEstablished, Moves, elsewhere, stays as keeps, leaves, confirms, moves, none_linked, none_confirmed, none_started, not_sse, quiet_in_sse}
 use Rattle.replay.proofs.Sheets.{Orderly, OverOn, closed, was, over_on, none_over, none_run, no_others, none_running, over_told, begins_with}
 
@@ -265,8 +265,9 @@ every_run_told s law m fresh calls given =
     let o = orderly s law m fresh calls given in
     let h : History = history s m calls in
     record {
-      one = λ service n last since x. over_told service n h last since o x;
-      end = S.ended;
+      one = λ service n last since x.
+          let by_calls : IsRecordOf service n last since (sheet_record service n last since) = record { number = refl; service = refl; sent = refl; taken = refl; end = S.ended service n last since x } in
+          (sheet_record service n last since, (over_told service n h last since o x, by_calls));
       running = λ service n since r. none_running service n h since o r;
       no_others = λ service n some. no_others service n h some;
       order = λ later earlier e. subst (λ z. BeginsWith (sheet_records z) (sheet_records earlier)) (sym e) (begins_with later earlier);

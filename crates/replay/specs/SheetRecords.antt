@@ -151,14 +151,19 @@ records_with service n records = filter (is_of service n) records
 abbrev pub BeginsWith : List SheetRecord → List SheetRecord → Type 0
 BeginsWith records first = (rest : List SheetRecord) × (records ≡ first ++ rest)
 
--- The records of a history of calls to an entity, as the entity is left, beside the sessions of this history.
+-- a session record of a session, by its last call and those before it
+pub record IsRecordOf (svc : Service) (n : ℕ) (last : Entry) (since : History) (r : SheetRecord) : Type 0 where
+  pub number : r.number ≡ n
+  pub service : r.service ≡ svc
+  pub sent : r.sent ≡ length (data_sent (last ∷ since))
+  pub taken : r.taken ≡ length (frames_received (last ∷ since))
+  pub end : HasEnd last r.end
+
+-- What these records tell of the sessions of a history, and what the entity is in that the history leaves.
 pub record TellsSessions (left : Model) (h : History) (records : List SheetRecord) : Type 0 where
-  -- each session that was confirmed and is over has one record, by its calls
+  -- each session that was confirmed and is over has exactly one, by its calls
   pub one : (service : Service) (n : ℕ) (last : Entry) (since : History) → HasEndedAs service n h (last ∷ since) →
-      records_with service n records ≡ sheet_record service n last since ∷ []
-  -- with its end
-  pub end : (service : Service) (n : ℕ) (last : Entry) (since : History) → HasEndedAs service n h (last ∷ since) →
-      HasEnd last (end_by last)
+      (r : SheetRecord) × ((records_with service n records ≡ r ∷ []) × IsRecordOf service n last since r)
   -- one that runs has none
   pub running : (service : Service) (n : ℕ) (since : History) → RunsAs service n h since →
       records_with service n records ≡ []
@@ -170,7 +175,7 @@ pub record TellsSessions (left : Model) (h : History) (records : List SheetRecor
   -- the state is Confirmed_SSE exactly while a session of SSE runs, and its number is the serial of the entity's shared secret
   pub confirmed : left.state ≡ ConfirmedSse → (since : History) × RunsSse left.secret h since
   pub secret : (n : ℕ) (since : History) → RunsSse n h since → (left.state ≡ ConfirmedSse) × (left.secret ≡ n)
-  -- no record is sent or taken in in it
+  -- during it no record is sent or taken in
   pub none_counted : (n : ℕ) (since : History) → RunsSse n h since ⊎ HasEndedSse n h since →
       (data_sent since ≡ []) × (frames_received since ≡ [])
 
