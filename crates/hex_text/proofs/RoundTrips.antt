@@ -1,11 +1,12 @@
 -- Text that was written is read as the same bytes.
-use Rattle.std.proofs.Common.{◌≡◌, ℕ, ◌+◌, ◌*◌, ◌/◌, ◌%◌, ◌<◌, false, List, [], ◌∷◌, ◌++◌, ◌-◌, ◌^◌, true, length, get_or, take, Some, Ok, refl, ap, ◌∙◌, arith}
-use Rattle.std.proofs.lemmas.List.{take_more}
+use Rattle.std.proofs.Common.{◌≡◌, Result, IfOk, ap, ◌∙◌, subst, string_bytes, String, ℕ, zero, suc, ◌+◌, ◌*◌, ◌/◌, ◌%◌, ◌<◌, Bool, false, true, ◌&&◌, eqb, inl, inr, List, [], ◌∷◌, slice_index, Some, Ok, refl, arith}
+use Rattle.std.proofs.lemmas.Bool.{and_parts, cases_lt, eqb-true}
 use Rattle.std.proofs.lemmas.Bool.Decides.{nat_tests}
-use Rattle.std.proofs.lemmas.Fmt.{hex_byte}
-use Rattle.std.specs.Fmt.{padded_integral, format_spec, digits}
+use Rattle.std.proofs.lemmas.Result.{IfOk-weaker}
+use Rattle.std.proofs.ByRecursion.{All-from_get_or}
 use Rattle.std.specs.List.{AllByRecursion}
-use Rattle.hex_text.specs.Hex.{digit, digits_of, digit_value, is_blank, bytes_from}
+use Rattle.hex.specs.Hex.{encode_upper, encode_with, upper_digits}
+use Rattle.hex_text.specs.Hex.{digit, digits_of, digit_value, is_blank, bytes_from, bytes_of}
 
 value-digit : (d : ℕ) → d < 16 → digit_value (digit d) ≡ Some d
 value-digit d h = grind (arith, nat_tests)
@@ -22,14 +23,43 @@ bytes_of-digits_of i (b ∷ bs) h =
     let rest = bytes_of-digits_of (i + 2) bs h.1 in
     rw (blank-digit (b / 16) high, value-digit (b / 16) high, value-digit (b % 16) low, rest, whole)
 
-digits_of-append : (xs ys : List ℕ) → digits_of (xs ++ ys) ≡ digits_of xs ++ digits_of ys
-digits_of-append [] ys = refl
-digits_of-append (x ∷ xs) ys = ap (λ z. digit (x / 16) ∷ digit (x % 16) ∷ z) (digits_of-append xs ys)
+-- the first n digits of the library's table are the digits here: a test that computes
+abbrev are_digits : ℕ → Bool
+are_digits zero = true
+are_digits (suc n) = eqb (slice_index upper_digits n) (digit n) && are_digits n
 
--- what `{:02X}` writes of a byte
-pub two_capitals : (b : ℕ) → b < 256 → padded_integral (format_spec 32 0 4 2 (2 ^ 64 - 1)) false [] (digits 16 true b) ≡ digits_of (b ∷ [])
-two_capitals b h = hex_byte true b h
+tested_digit : (n d : ℕ) → are_digits n ≡ true → d < n → slice_index upper_digits d ≡ digit d
+tested_digit zero d t h = absurd (omega arith)
+tested_digit (suc n) d t h =
+    let parts = and_parts (eqb (slice_index upper_digits n) (digit n)) (are_digits n) t in
+    elim (cases_lt d n) [
+      | inl below ↦ tested_digit n d parts.1 below
+      | inr top ↦
+          let e : d ≡ n = omega arith in
+          rw e (eqb-true (slice_index upper_digits n) (digit n) parts.0)
+    ]
 
--- one byte more
-pub spelled_more : (bs : List ℕ) (i : ℕ) → i < length bs → digits_of (take (i + 1) bs) ≡ digits_of (take i bs) ++ digits_of (get_or bs i 0 ∷ [])
-spelled_more bs i h = ap digits_of (take_more bs i 0 h) ∙ digits_of-append (take i bs) (get_or bs i 0 ∷ [])
+upper_digit : (d : ℕ) → d < 16 → slice_index upper_digits d ≡ digit d
+upper_digit d h = tested_digit 16 d refl h
+
+-- the library writes the same digits
+pub encode_upper-digits_of : (bs : List ℕ) → AllByRecursion (λ b. b < 256) bs → encode_upper bs ≡ digits_of bs
+unfolding encode_with
+encode_upper-digits_of [] h = refl
+encode_upper-digits_of (b ∷ bs) h =
+    let high : b / 16 < 16 = omega (arith, h.0) in
+    let low : b % 16 < 16 = omega arith in
+    let rest = encode_upper-digits_of bs h.1 in
+    rw (upper_digit (b / 16) high, upper_digit (b % 16) low, rest)
+
+all_bytes : (bs : List ℕ) → ((i : ℕ) → slice_index bs i < 256) → AllByRecursion (λ b. b < 256) bs
+all_bytes bs h = All-from_get_or (λ b. b < 256) bs 0 (λ i long. h i)
+
+-- what the library wrote is the text, which is read as the same bytes
+pub written : {Z E : Type 0} (r : Result (String Z) E) (bs : List ℕ) → ((i : ℕ) → slice_index bs i < 256) → IfOk r (λ t. string_bytes t ≡ encode_upper bs) → IfOk r (λ t. string_bytes t ≡ digits_of bs)
+written r bs h e = subst (λ z. IfOk r (λ t. string_bytes t ≡ z)) (encode_upper-digits_of bs (all_bytes bs h)) e
+
+pub read_back : {Z E : Type 0} (r : Result (String Z) E) (bs : List ℕ) → ((i : ℕ) → slice_index bs i < 256) → IfOk r (λ t. string_bytes t ≡ encode_upper bs) → IfOk r (λ t. bytes_of (string_bytes t) ≡ Ok bs)
+read_back r bs h e =
+    let bytes = all_bytes bs h in
+    IfOk-weaker r _ _ (λ t s. ap bytes_of (s ∙ encode_upper-digits_of bs bytes) ∙ bytes_of-digits_of 0 bs bytes) e

@@ -9,7 +9,6 @@ ghost use Rattle.hex_text.specs.declared.HexError.TheVariants.{NoMemory};
 use std::alloc::{AllocError, AllocFailed, Global};
 use std::error::Error;
 use std::fmt;
-use std::fmt::Write;
 
 /// Why a text is not read as bytes.
 #[derive(Clone, Copy, Debug, PartialEq, Eq)]
@@ -95,15 +94,10 @@ pub fn decode(heap: Global, text: &[u8]) -> Result<Vec<u8>, HexError>
 
 /// Returns the text of bytes: two capital hexadecimal digits for each, with nothing between, which `decode` reads as these bytes. The error
 /// is that there is no memory for it.
-#[tactic(auto, using(crate::proofs::RoundTrips::two_capitals, crate::proofs::RoundTrips::spelled_more))]
+#[tactic(auto, using(crate::proofs::RoundTrips::written, crate::proofs::RoundTrips::read_back))]
 pub fn encode(heap: Global, bytes: &[u8]) -> Result<String, AllocError>
     ensures text { IfOk result (λ t. string_bytes t ≡ digits_of bytes.now) }
     ensures back { IfOk result (λ t. bytes_of (string_bytes t) ≡ Ok bytes.now) }
 {
-    // By std's format: another crate for hexadecimal digits would take a line too.
-    let mut text = String::new(heap);
-    for b in bytes {
-        write!(text, "{b:02X}")?;
-    }
-    Ok(text)
+    hex::encode_upper(heap, bytes)
 }
