@@ -51,7 +51,9 @@ impl KeyStore {
         ensures { option_map (λ x. x.now) result ≡ value_in (keys_of self.now) kind serial }
     {
         let label = Label { serial, kind };
-        self.first.value_of(label).or(self.second.value_of(label))
+        self.first
+            .value_of(label)
+            .or_else(|| self.second.value_of(label))
     }
 
     // Returns whether no further key can be put: two are live, or the serials are used up.
